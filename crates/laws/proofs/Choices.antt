@@ -1,0 +1,43 @@
+-- Laws of `refusal`: a refusal whose test fails is passed over, one whose test holds is given, and where none is given each test
+-- failed. Assumes nothing.
+use mathlib.Core.Bool.{Bool, true, false, cond}
+use mathlib.Core.List.{List, [], _∷_, _++_}
+use mathlib.Core.Path.{_≡_, refl, sym, ap, _∙_}
+use Prim.Native.Nat.{ℕ, suc}
+use native.Mathlib.Omega.{arith}
+use Rattle.laws.specs.Choice.{refusal}
+
+pub no-tests : refusal [] ≡ 0
+unfolding refusal
+no-tests = refl
+
+pub passed-over : (b : Bool) (n : ℕ) (rest : List (Bool × ℕ)) → b ≡ false → refusal ((b, n) ∷ rest) ≡ refusal rest
+unfolding refusal
+passed-over b n rest e = ap (λ (v : Bool). cond v n (refusal rest)) e
+
+pub given : (b : Bool) (n : ℕ) (rest : List (Bool × ℕ)) → b ≡ true → refusal ((b, n) ∷ rest) ≡ n
+unfolding refusal
+given b n rest e = ap (λ (v : Bool). cond v n (refusal rest)) e
+
+-- where no refusal is given, the first test failed, and none of the others is given
+pub none-first : (b : Bool) (n : ℕ) (rest : List (Bool × ℕ)) → refusal ((b, suc n) ∷ rest) ≡ 0 → b ≡ false
+unfolding refusal
+none-first true n rest e = absurd (omega arith)
+none-first false n rest e = refl
+
+pub none-rest : (b : Bool) (n : ℕ) (rest : List (Bool × ℕ)) → refusal ((b, suc n) ∷ rest) ≡ 0 → refusal rest ≡ 0
+none-rest b n rest e = sym (passed-over b (suc n) rest (none-first b n rest e)) ∙ e
+
+-- a refusal that is given is given whatever tests follow
+pub given-before : (tests more : List (Bool × ℕ)) → (refusal tests ≡ 0 → ⊥) → refusal (tests ++ more) ≡ refusal tests
+unfolding refusal
+given-before [] more h = absurd (h refl)
+given-before (test ∷ tests) more h = go (test .0) h (given-before tests more)
+  where
+    go :
+        (v : Bool)
+        → (cond v (test .1) (refusal tests) ≡ 0 → ⊥)
+        → ((refusal tests ≡ 0 → ⊥) → refusal (tests ++ more) ≡ refusal tests)
+        → cond v (test .1) (refusal (tests ++ more)) ≡ cond v (test .1) (refusal tests)
+    go true k later = refl
+    go false k later = later k

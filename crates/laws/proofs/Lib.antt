@@ -1,0 +1,19 @@
+-- What is proved of the notions of specs/.
+--     Bools       tests made of tests
+--     Choices     the first refusal whose test holds
+--     Sums        sums rise, are bounded, and are equal where their numbers are
+--     Largests    the block of a running sum that a number lies in
+--     Rising      the largest place of a function that rises
+--     Powers      powers by squaring and by a shift
+--     Orders      the packing law: F b + r compares as b, then as r
+--     Convolution  sums over two places, computed on lists
+--     Counting    if each number is hit once, as many items are below s as s says
+pub mod Bools
+pub mod Choices
+pub mod Sums
+pub mod Largests
+pub mod Convolution
+pub mod Rising
+pub mod Powers
+pub mod Orders
+pub mod Counting

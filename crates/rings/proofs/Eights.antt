@@ -1,0 +1,201 @@
+-- What the functions over eight rings need of the counts: steps 2 to 4 of clause 9.4 as the code takes them, and that nothing on the
+-- way is larger than M^8. Assumes nothing.
+use mathlib.Core.List.{List}
+use mathlib.Core.Path.{_≡_, refl, sym, subst, ap, ap₂, _∙_}
+use Prim.Native.Nat.{ℕ, suc, _+_, _*_, _-_, _/_, _%_, _^_, _≤_, _<_}
+use native.Mathlib.Nat.{pow-le-pow-left}
+use native.Mathlib.Decide.{decLe}
+use native.Mathlib.Omega.{arith}
+use lib.ListN.{length}
+use Rattle.laws.specs.Largest.{largest}
+use Rattle.laws.specs.Sum.{sum}
+use Rattle.laws.proofs.Largests.{Within, largest-le, largest-within}
+use Rattle.laws.proofs.Rising.{largest-same}
+use Rattle.laws.proofs.Sums.{sum-zero, sum-rises, sum-mono}
+use Rattle.listing.specs.Counts.{g4, g8, z8, lighter}
+use Rattle.listing.specs.Number.{ringsOf, fourAt, placeOfFour, number}
+use Rattle.listing.specs.Sets.{Eight, Below8, weight4, weight8}
+use Rattle.listing.proofs.Agree.{z8-all, heaviest, number-below-all}
+use Rattle.listing.proofs.CountLaws.{g4-ends}
+use Rattle.listing.proofs.Halves.{Halved, halved}
+use Rattle.rings.specs.Counts.{at, Known, CountsOf, Ascending, Summable, Locatable, locatedOf}
+use Rattle.rings.specs.Parts.{halvesOf}
+use Rattle.rings.specs.declared.counts.Counts.{Counts}
+use Rattle.rings.specs.declared.locate.Located.{Located}
+use Rattle.rings.specs.declared.number.Halves.{Halves}
+
+-- counts of M are the counts of their own M
+pub own : (M : ℕ) (c : Counts) → CountsOf M c → CountsOf (c .m) c
+own M c k = subst (λ (n : ℕ). CountsOf n c) (sym (k .of)) k
+
+-- M^8 is at most 18^8, which has 34 bits
+pub power-bound : (M : ℕ) → Known M → M ^ 8 ≤ 11019960576
+power-bound M known = pow-le-pow-left {m = 18} (known .high) 8
+
+-- the eights of one weight are part of them all
+pub g8-bound : (M p : ℕ) → p ≤ 8 * (M - 1) → z8 M p + g8 M p ≤ M ^ 8
+unfolding z8
+g8-bound M p h = subst (λ (k : ℕ). z8 M p + g8 M p ≤ k) (z8-all M) (sum-rises (g8 M) p (suc (8 * (M - 1))) (omega arith))
+
+-- a weight that some four has is at most 4(M − 1), and so at most 68
+pub four-weight : (M p i : ℕ) → Known M → i < g4 M p → p ≤ 68
+four-weight M p i known h =
+    elim (decLe p 68) [
+      | yes l ↦ l
+      | no l ↦ absurd (let z = g4-ends M p (omega arith) in omega arith)
+    ]
+
+-- the row of running sums rises, and starts at 0
+pub ascending :
+    (M S : ℕ) (c : Counts)
+    → CountsOf M c
+    → length (c .lighter) ≡ 137
+    → Ascending (c .lighter) (8 * (M - 1)) S
+unfolding z8
+ascending M S c k long = record {
+  inside = omega arith;
+  start = let z = k .lighter 0 (omega arith) in let s = sum-zero (g8 M) in omega arith;
+  rises = λ p q l h.
+      let a = k .lighter p (omega arith) in
+      let b = k .lighter q h in
+      let s = sum-mono (g8 M) p q l in
+      omega arith;
+}
+
+module _ (M S : ℕ) (below : S < M ^ 8) where
+  -- A and R0
+  pub weight : ℕ
+  weight = largest (z8 M) S (8 * (M - 1))
+
+  pub rest : ℕ
+  rest = S - z8 M weight
+
+  weight-within : Within (g8 M) S weight
+  unfolding weight z8
+  weight-within = largest-within (g8 M) S (8 * (M - 1)) (subst (λ (k : ℕ). S < k) (sym (z8-all M)) below)
+
+  weight-top : weight ≤ 8 * (M - 1)
+  unfolding weight
+  weight-top = largest-le (z8 M) S (8 * (M - 1))
+
+  rest-below : rest < g8 M weight
+  unfolding rest z8
+  rest-below = let a = weight-within .from in let b = weight-within .to in omega arith
+
+  -- what holds of the two weights and the two places
+  pub record Halfway (h : Halves) : Type 0 where
+    pub top : h .weight ≤ 8 * (M - 1)
+    pub within : h .«first_weight» ≤ h .weight
+    pub first : h .«first_place» < g4 M (h .«first_weight»)
+    pub second : h .«second_place» < g4 M (h .weight - h .«first_weight»)
+    pub whole : ringsOf M S ≡ (fourAt M (h .«first_weight») (h .«first_place»), fourAt M (h .weight - h .«first_weight») (h .«second_place»))
+
+  pub halfway : Halfway (halvesOf M S)
+  unfolding halvesOf ringsOf fourAt weight rest g8
+  halfway = go (halved (g4 M) weight rest rest-below)
+    where
+      go : Halved (g4 M) weight rest → Halfway (halvesOf M S)
+      go k = record { top = weight-top; within = k .least; first = k .first; second = k .second; whole = refl }
+
+  -- what `locate_weight` finds in the row of running sums
+  pub weighed :
+      (c : Counts) (x : Located)
+      → CountsOf M c
+      → x ≡ locatedOf (at (c .lighter)) S (8 * (M - 1))
+      → (x .at ≡ weight) × (x .rest ≡ rest)
+  unfolding locatedOf weight rest
+  weighed c x k found =
+      let same = largest-same (at (c .lighter)) (z8 M) S (8 * (M - 1)) (k .lighter) in
+      let there = k .lighter (largest (at (c .lighter)) S (8 * (M - 1))) (largest-le (at (c .lighter)) S (8 * (M - 1))) in (
+        ap (λ (y : Located). y .at) found ∙ same,
+        ap (λ (y : Located). y .rest) found ∙ ap (λ (n : ℕ). S - n) (there ∙ ap (z8 M) same),
+      )
+
+  -- the place among the eights of that weight can be located
+  pub locatable8 :
+      (c : Counts) (x : Located)
+      → CountsOf M c
+      → (x .at ≡ weight) × (x .rest ≡ rest)
+      → length (c .fours) ≡ 137
+      → Locatable (c .fours) (x .at) (x .rest)
+  unfolding g8
+  locatable8 c x k e long =
+      let bound = power-bound M (k .known) in
+      let g = g8-bound M weight weight-top in
+      let t = weight-top in
+      let h = k .known .high in
+      rw (e .0, e .1)
+      (record {
+        inside = omega arith;
+        below = subst (λ (f : ℕ → ℕ). rest < lighter f weight (suc weight)) (sym (k .fours)) rest-below;
+        fits = subst (λ (f : ℕ → ℕ). lighter f weight (suc weight) < 2 ^ 64) (sym (k .fours)) (omega arith);
+      })
+
+  -- and what `locate` finds among them, in a row that is g4, makes up the halves
+  pub record Split8 (x y : Located) (count : ℕ) : Type 0 where
+    pub inside : y .at < 137
+    pub some : 0 < count
+    pub whole :
+        _≡_
+        {A = Halves}
+        (record { weight = x .at; «first_weight» = y .at; «first_place» = y .rest % count; «second_place» = y .rest / count })
+        (halvesOf M S)
+
+  split8-here : Known M → Split8 (record { at = weight; rest = rest }) (locatedOf (lighter (g4 M) weight) rest weight) (g4 M (largest (lighter (g4 M) weight) rest weight))
+  unfolding locatedOf halvesOf weight rest g8
+  split8-here known = go (halved (g4 M) weight rest rest-below)
+    where
+      go : Halved (g4 M) weight rest → Split8 (record { at = weight; rest = rest }) (locatedOf (lighter (g4 M) weight) rest weight) (g4 M (largest (lighter (g4 M) weight) rest weight))
+      go k =
+          let t = weight-top in
+          record { inside = omega (arith, k .least, known .high); some = omega (arith, k .first); whole = refl }
+
+  pub split8 :
+      (g : ℕ → ℕ) (x y : Located)
+      → Known M
+      → g ≡ g4 M
+      → (x .at ≡ weight) × (x .rest ≡ rest)
+      → y ≡ locatedOf (lighter g (x .at)) (x .rest) (x .at)
+      → Split8 x y (g (y .at))
+  unfolding locatedOf
+  split8 g x y known same e found =
+      let whole : x ≡ record { at = weight; rest = rest } = ap₂ (λ (a r : ℕ). record { at = a; rest = r }) (e .0) (e .1) in
+      rw (found, whole, same) (split8-here known)
+
+-- the number of a set, from its parts: none is larger than the whole, and that has 34 bits
+module _ (M : ℕ) (c : Counts) (x : Eight) (k : CountsOf M c) (below : Below8 M x) where
+  pub number-fits : number M x < 11019960576
+  number-fits = let p = power-bound M (k .known) in let n = number-below-all M x below in omega arith
+
+  pub number-whole :
+      (front back passed first second : ℕ)
+      → front ≡ weight4 (x .0)
+      → back ≡ weight4 (x .1)
+      → passed ≡ lighter (at (c .fours)) (front + back) front
+      → first ≡ placeOfFour M (x .0)
+      → second ≡ placeOfFour M (x .1)
+      → at (c .lighter) (front + back) + (passed + (second * at (c .fours) front + first)) ≡ number M x
+  unfolding number
+  number-whole front back passed first second e1 e2 es ef eg =
+      let lower : at (c .lighter) (front + back) ≡ z8 M (weight8 x) = rw (e1, e2) (k .lighter (weight8 x) (heaviest M x below)) in
+      let before : passed ≡ lighter (g4 M) (weight8 x) (weight4 (x .0)) = es ∙ rw (e1, e2, k .fours) in
+      let fours : at (c .fours) front ≡ g4 M (weight4 (x .0)) = ap (λ (g : ℕ → ℕ). g front) (k .fours) ∙ ap (g4 M) e1 in
+      rw (lower, before, fours, ef, eg)
+
+  -- the weights stay inside the rows, and what is summed is part of the eights of one weight
+  pub weights-inside : weight8 x ≤ 136
+  weights-inside = let h = heaviest M x below in let m = k .known .high in omega arith
+
+  pub summable8 : length (c .fours) ≡ 137 → Summable (c .fours) (weight8 x) (weight4 (x .0))
+  unfolding g8 lighter
+  summable8 long =
+      let w = weights-inside in
+      let h = heaviest M x below in
+      let p = power-bound M (k .known) in
+      let g = g8-bound M (weight8 x) h in
+      let s = sum-mono (λ p. g4 M p * g4 M (weight8 x - p)) (weight4 (x .0)) (suc (weight8 x)) (omega arith) in
+      record {
+        inside = omega arith;
+        upTo = omega arith;
+        fits = subst (λ (f : ℕ → ℕ). lighter f (weight8 x) (weight4 (x .0)) < 2 ^ 64) (sym (k .fours)) (omega arith);
+      }

@@ -1,0 +1,76 @@
+-- `rings::entry::map` meets its contract: a refusal leaves the slice, and where none is given the rings are those of the number.
+-- Assumes nothing.
+use mathlib.Core.Path.{_≡_, sym, ap, subst, _∙_}
+use Prim.Native.Nat.{ℕ, _^_, _<_}
+use native.Mathlib.Nat.{lt-of-lt-of-le}
+use borrow.Author.Needs.{needs}
+use lib.ListN.{length}
+use Rattle.listing.specs.Sets.{asList}
+use Rattle.rings.specs.Answers.{mappedRings, mapRefusal}
+use Rattle.rings.specs.Counts.{Known, CountsOf}
+use Rattle.rings.proofs.Answering.{MapAccepted, map-accepted, map-done, map-left}
+use Rattle.rings.proofs.Eights.{own}
+use Rattle.rings.proofs.entry.map.Statement.{statement}
+use Rattle.rings.proofs.entry.map.Tie as tie
+
+map-refusal-requires : tie.Need-map-refusal-requires
+map-refusal-requires c κs = search needs
+
+returns : tie.Need-returns
+returns c =
+    let e = c .before .map-refusal .ensures in
+    record { refusal = e; slice = map-left _ _ _ _ (λ z. c .if1 .taken (e ∙ z)) }
+
+-- no refusal was given
+none :
+    (k : tie.Else1)
+    → let a = k .before .before .before .args in
+    mapRefusal (a .k) (a .m) (a .s) (length (a .out .now)) ≡ 0
+none k = sym (k .before .map-refusal .ensures) ∙ k .if1 .left
+
+accepted :
+    (k : tie.Else1)
+    → let a = k .before .before .before .args in
+    MapAccepted (a .k) (a .m) (a .s) (length (a .out .now))
+accepted k = map-accepted _ _ _ _ (none k)
+
+counts-of-requires : tie.Need-counts-of-requires
+counts-of-requires c κs = let p = accepted c .allowed in record { low = p .low; high = p .high }
+
+rings-of-requires : tie.Need-rings-of-requires
+rings-of-requires c κs =
+    let k = c .counts-of .ensures in
+    let a = accepted (c .before) in
+    (own _ _ k, subst (λ (n : ℕ). c .before .before .before .before .args .s < n ^ 8) (sym (k .of)) (lt-of-lt-of-le (a .low) (a .allowed .room)))
+
+-- the rings are those that the mapper answers
+found :
+    (k : tie.After-rings-of)
+    → let a = k .before .before .before .before .before .args in
+    k .rings-of .result .ring ≡ asList (mappedRings (a .m) (a .s))
+unfolding mappedRings
+found k = k .rings-of .ensures ∙ rw (k .before .counts-of .ensures .of)
+
+store-requires : tie.Need-store-requires
+store-requires c κs = (accepted (c .before .before .before) .eight, ap length (found (c .before)))
+
+same-length : tie.Need-same-length
+same-length c = search needs
+
+returns-2 : tie.Need-returns-2
+returns-2 c =
+    let k = c .before .before .before .before in
+    let e = none (k .before .before) in
+    record { refusal = sym e; slice = c .before .before .store .ensures ∙ (found k ∙ sym (map-done _ _ _ _ e)) }
+
+pub map-spec : {M : Type 1} → statement M
+map-spec =
+    tie.close
+    (tie.spec
+    map-refusal-requires
+    returns
+    counts-of-requires
+    rings-of-requires
+    store-requires
+    same-length
+    returns-2)

@@ -1,0 +1,88 @@
+-- `rings::entry::rank` meets its contract: the tests come first, then the number is held against 2^K. Assumes nothing.
+use mathlib.Core.Bool.{true}
+use mathlib.Core.Path.{_≡_, sym, ap, subst, _∙_}
+use Prim.Native.Nat.{ℕ, _<_}
+use native.Mathlib.Omega.{arith}
+use borrow.Author.Needs.{needs}
+use borrow.Author.Tests.{le-leb, lt-leb}
+use lib.ListN.{length}
+use Rattle.laws.proofs.Choices.{given}
+use Rattle.laws.proofs.Powers.{shifted-one}
+use Rattle.listing.specs.Number.{number}
+use Rattle.listing.specs.Sets.{Below8, ofList}
+use Rattle.rings.specs.Answers.{rankTested}
+use Rattle.rings.proofs.Answering.{Tested, tested, rank-refused, rank-last, rank-accepts, rank-answer}
+use Rattle.rings.proofs.Eights.{own}
+use Rattle.rings.proofs.Tests.{all-below}
+use Rattle.rings.proofs.entry.rank.Statement.{statement}
+use Rattle.rings.proofs.entry.rank.Tie as tie
+
+rank-tested-requires : tie.Need-rank-tested-requires
+rank-tested-requires c κs = search needs
+
+returns : tie.Need-returns
+returns c = rank-refused _ _ _ _ (c .before .rank-tested .ensures) (c .if1 .taken)
+
+-- no test refused
+passed :
+    (k : tie.Else1)
+    → let a = k .before .before .before .args in
+    Tested (a .k) (a .m) (a .rings .now)
+passed k = tested _ _ _ (sym (k .before .rank-tested .ensures) ∙ k .if1 .left)
+
+counts-of-requires : tie.Need-counts-of-requires
+counts-of-requires c κs = let p = passed c .allowed in record { low = p .low; high = p .high }
+
+load-requires : tie.Need-load-requires
+load-requires c κs = passed (c .before) .eight
+
+number-of-requires : tie.Need-number-of-requires
+number-of-requires c κs =
+    let k = c .before .counts-of .ensures in
+    let t = passed (c .before .before) in
+    (own _ _ k, rw (k .of, c .load .ensures) (all-below _ _ (t .eight) (t .below)))
+
+-- the number is that of the rings
+found :
+    (k : tie.After-number-of)
+    → let a = k .before .before .before .before .before .before .args in
+    k .number-of .result ≡ number (a .m) (ofList (a .rings .now))
+found k = k .number-of .ensures ∙ rw (k .before .before .counts-of .ensures .of, k .before .load .ensures)
+
+-- the shift is of fewer than 64
+few-bits :
+    (k : tie.After-number-of)
+    → let a = k .before .before .before .before .before .before .args in
+    a .k < 64
+few-bits k = omega (arith, passed (k .before .before .before) .allowed .bits)
+
+shl-if2 : tie.Need-shl-if2
+shl-if2 c = few-bits c
+
+returns-2 : tie.Need-returns-2
+returns-2 c =
+    let k = c .before in
+    let t = passed (k .before .before .before) in
+    let high = rw (shifted-one _ (few-bits k), found k) at (c .if2 .taken) in
+    sym (rank-answer _ _ _ 11 (rank-last _ _ _ (t .allowed) (t .eight) (t .below) ∙ given _ 11 _ (le-leb _ _ high)))
+
+returns-3 : tie.Need-returns-3
+returns-3 c =
+    let k = c .before in
+    let t = passed (k .before .before .before) in
+    let low = rw (shifted-one _ (few-bits k), found k) at (c .if2 .left) in
+    ap (λ (n : ℕ). record { refusal = 0; number = n }) (found k)
+    ∙ sym (rank-answer _ _ _ 0 (rank-accepts _ _ _ (record { allowed = t .allowed; eight = t .eight; below = t .below; low = low })))
+
+pub rank-spec : {M : Type 1} → statement M
+rank-spec =
+    tie.close
+    (tie.spec
+    rank-tested-requires
+    returns
+    counts-of-requires
+    load-requires
+    number-of-requires
+    shl-if2
+    returns-2
+    returns-3)

@@ -1,0 +1,86 @@
+-- What the mapper and the ranker answer (document 01, "What comes back"), for all inputs. The first refusal that holds is given:
+--
+--     mapper                                            ranker
+--     13   K above 31, M not 1 to 18, 2^K above M^8     13   the same
+--     8    the lent slice has not eight bytes           8    there are not eight rings
+--     14   S not below 2^K                              10   a ring not below M
+--                                                       11   the number of the rings is 2^K or more
+--
+-- A refused call answers its number and 0 for the rest, and what was lent is as it was. For example
+--
+--     K    M   S     mapper             K    M   rings              ranker
+--     8    2   255   0, 1 1 1 1 1 1 1 1   12   3   2 2 2 2 2 2 2 2    11, 0
+--     8    2   256   14                  13   3   0 0 0 0 0 0 0 0    13, 0
+use mathlib.Core.Bool.{Bool, true, not, _&&_, cond}
+use mathlib.Core.List.{List, [], _∷_}
+use mathlib.Core.Path.{_≡_}
+use Prim.Native.Nat.{ℕ, _^_, _≤_}
+use lib.Dec.{leb, ltb, eqb}
+use lib.ListN.{length}
+use Rattle.laws.specs.Choice.{refusal}
+use Rattle.listing.specs.Sets.{Eight, asList, ofList}
+use Rattle.listing.specs.Number.{ringsOf, number}
+use Rattle.rings.specs.declared.entry.Ranked.{Ranked}
+
+-- the K and M that can be asked for
+pub record Permitted (K M : ℕ) : Type 0 where
+  pub bits : K ≤ 31
+  pub low : 1 ≤ M
+  pub high : M ≤ 18
+  pub room : 2 ^ K ≤ M ^ 8
+
+-- the same as a test
+unfoldable pub permitted : ℕ → ℕ → Bool
+permitted K M = leb K 31 && (leb 1 M && (leb M 18 && leb (2 ^ K) (M ^ 8)))
+
+-- every ring of the list is below M
+unfoldable pub allBelow : ℕ → List ℕ → Bool
+allBelow M [] = true
+allBelow M (ring ∷ rings) = ltb ring M && allBelow M rings
+
+-- the mapper's refusal number, 0 where the mapping is done; `lent` is the length of the slice lent to it
+unfoldable pub mapRefusal : ℕ → ℕ → ℕ → ℕ → ℕ
+mapRefusal K M S lent =
+    refusal
+    ((not (permitted K M), 13)
+    ∷ (not (eqb lent 8), 8)
+    ∷ (leb (2 ^ K) S, 14)
+    ∷ [])
+
+-- the set that the mapper answers
+unfoldable pub mappedRings : ℕ → ℕ → Eight
+mappedRings M S = ringsOf M S
+
+-- the lent slice after the call
+unfoldable pub mapOut : ℕ → ℕ → ℕ → List ℕ → List ℕ
+mapOut K M S out = cond (eqb (mapRefusal K M S (length out)) 0) (asList (mappedRings M S)) out
+
+-- what the mapper must answer: the number r, and what the lent slice then holds
+pub record MapAnswer (K M S : ℕ) (out : List ℕ) (r : ℕ) (after : List ℕ) : Type 0 where
+  pub refusal : r ≡ mapRefusal K M S (length out)
+  pub slice : after ≡ mapOut K M S out
+
+-- the ranker's refusal number, 0 where the set is ranked
+unfoldable pub rankRefusal : ℕ → ℕ → List ℕ → ℕ
+rankRefusal K M rings =
+    refusal
+    ((not (permitted K M), 13)
+    ∷ (not (eqb (length rings) 8), 8)
+    ∷ (not (allBelow M rings), 10)
+    ∷ (leb (2 ^ K) (number M (ofList rings)), 11)
+    ∷ [])
+
+-- the refusals that the ranker tests before it ranks: 13, 8 and 10
+unfoldable pub rankTested : ℕ → ℕ → List ℕ → ℕ
+rankTested K M rings =
+    refusal
+    ((not (permitted K M), 13)
+    ∷ (not (eqb (length rings) 8), 8)
+    ∷ (not (allBelow M rings), 10)
+    ∷ [])
+
+-- the ranker's answer
+unfoldable pub rankedOf : ℕ → ℕ → List ℕ → Ranked
+rankedOf K M rings =
+    let no = rankRefusal K M rings in
+    record { refusal = no; number = cond (eqb no 0) (number M (ofList rings)) 0 }

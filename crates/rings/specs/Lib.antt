@@ -1,0 +1,7 @@
+-- The mapper and the ranker (document 01, "The eight rings" and "What comes back").
+--     Counts     what the counts of an M hold
+--     Parts      pairs and fours of rings as the code holds them
+--     Answers    the refusals and answers of the two entries, for all inputs
+pub mod Counts
+pub mod Parts
+pub mod Answers
