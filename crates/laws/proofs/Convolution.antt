@@ -39,6 +39,13 @@ values-at f zero h p = sym (h p zero-le)
 values-at f (suc n) h zero = refl
 values-at f (suc n) h (suc p) = values-at (λ k. f (suc k)) n (λ q l. h (suc q) (suc-le-suc l)) p
 
+-- at each place below n, whatever f is beyond
+pub values-below : (f : ℕ → ℕ) (n p : ℕ) → p < n → getD (values f n) p 0 ≡ f p
+unfolding values
+values-below f zero p h = absurd (not-suc-le-zero h)
+values-below f (suc n) zero h = refl
+values-below f (suc n) (suc p) h = values-below (λ k. f (suc k)) n p (le-of-suc-le-suc h)
+
 -- x times the first list, added to the second
 unfoldable pub timesPlus : ℕ → List ℕ → List ℕ → List ℕ
 timesPlus x [] zs = zs

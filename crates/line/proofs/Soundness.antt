@@ -1,0 +1,186 @@
+-- What holds of all accepted settings: what the eight rings, the frames and the labels ask of K, M, q, b, r, P and N. Most of it holds
+-- of any rate in range; what only the table knows is one test each, computed at all 65 pairs of s and n. Assumes nothing.
+use mathlib.Core.Bool.{Bool, true, false, cond, _||_}
+use mathlib.Core.Path.{_≡_, refl, sym, subst, _∙_}
+use Prim.Native.Nat.{ℕ, zero, suc, _+_, _*_, _-_, _^_, _≤_, _<_}
+use native.Mathlib.Omega.{arith}
+use lib.Dec.{leb}
+use borrow.Author.Tests.{leb-true, leb-false, le-ltb, lt-leb}
+use Rattle.laws.specs.Smallest.{smallest}
+use Rattle.laws.proofs.Tables.{passesBelow, at-each}
+use Rattle.line.specs.declared.rate.SymbolRate.{SymbolRate}
+use Rattle.line.specs.declared.rate.Rate.{Rate}
+use Rattle.line.specs.declared.rate.Rate.the-variants.{Known, Unknown}
+use Rattle.line.specs.declared.settings.Settings.{Settings}
+use Rattle.line.specs.declared.settings.Worked.the-variants.{Accepted}
+use Rattle.line.specs.Rates.{symbolRate, rowOf}
+use Rattle.line.specs.Numbers.{bitsOf, highOf, stepOf, uncodedOf, shellOf, minimumOf, nearestOf, expandedOf, pointsOf}
+use Rattle.line.specs.Settings.{outside, shapingOf, ringsOfShaping, settingsOf, workedOf}
+use Rattle.line.specs.Switching.{counterAt, frameBits}
+use Rattle.line.proofs.Acceptance.{Within, Right, accepted-when, right-unrefused, unrefused-is, known-accepted}
+use Rattle.line.proofs.Divisions.{divided, bits-least, uncoded-is, shell-is, shell-below}
+use Rattle.line.proofs.Frames.{DataFrame, data-frame}
+use Rattle.line.proofs.Rings.{Permitted, rings-permitted}
+use Rattle.line.proofs.Rows.{onKnown, known-below, in-range}
+
+pub record Sound (c : Settings) : Type 0 where
+  pub end : c .role ≤ 1
+  pub bits-most : c .bits ≤ 1248
+  pub frames-least : 12 ≤ c .frames
+  pub frames-most : c .frames ≤ 16
+  -- b, the smallest with b·P at least N, is 8 to 79
+  pub holds : c .bits ≤ c .high * c .frames
+  pub fewer : (c .high - 1) * c .frames < c .bits
+  pub high-least : 8 ≤ c .high
+  pub high-most : c .high ≤ 79
+  -- r, and the switching sequence
+  pub step-some : 1 ≤ c .step
+  pub step-most : c .step ≤ c .frames
+  pub step-is : c .step + (c .high - 1) * c .frames ≡ c .bits
+  pub frame : DataFrame (c .bits) (c .frames) (c .high) (c .step)
+  -- a data frame with a low frame has b of at least 9, so that no frame has fewer than 8 bits
+  pub low-least : c .step < c .frames → 9 ≤ c .high
+  -- K and q: none where b is at most 12, and otherwise a frame's bits
+  pub shell-most : c .shell ≤ 31
+  pub uncoded-most : c .uncoded ≤ 5
+  pub plain : c .high ≤ 12 → (c .shell ≡ 0) × (c .uncoded ≡ 0)
+  pub shaped : 12 < c .high → (1 ≤ c .shell) × (c .shell + 4 * (3 + 2 * c .uncoded) ≡ c .high)
+  -- M and L, and labels below 416
+  pub rings : Permitted (c .shell) (ringsOfShaping (c .shaping))
+  pub points-are : c .points ≡ 4 * ringsOfShaping (c .shaping) * 2 ^ c .uncoded
+  pub labels : ringsOfShaping (c .shaping) * 2 ^ c .uncoded ≤ 416
+
+-- a test computed at each n in the range of each rate
+abbrev pub atEachPair : (SymbolRate → ℕ → Bool) → Bool
+atEachPair test = passesBelow (λ s. passesBelow (λ n. outside (symbolRate s) n || onKnown (λ rate. test rate n) (symbolRate s)) 15) 6
+
+-- holds of every rate that s names and n in its range
+each-pair :
+    (test : SymbolRate → ℕ → Bool) → atEachPair test ≡ true
+    → (s n : ℕ) (rate : SymbolRate) → symbolRate s ≡ Known rate → rate .least ≤ n → n ≤ rate .most → n ≤ 14 → test rate n ≡ true
+each-pair test passes s n rate e from to few = sym chosen ∙ at-each inner 15 (at-each outer 6 passes s (known-below s rate e)) n (omega arith)
+  where
+    inner : ℕ → Bool
+    inner n = outside (symbolRate s) n || onKnown (λ rate. test rate n) (symbolRate s)
+
+    outer : ℕ → Bool
+    outer s = passesBelow (λ n. outside (symbolRate s) n || onKnown (λ rate. test rate n) (symbolRate s)) 15
+
+    chosen : inner n ≡ test rate n
+    chosen = rw (e, le-ltb n (rate .least) from, le-ltb (rate .most) n to)
+
+-- N, b, r of a rate and n; K, q and M of both shapings follow
+bits : SymbolRate → ℕ → ℕ
+bits rate n = bitsOf (rate .j) n
+
+high : SymbolRate → ℕ → ℕ
+high rate n = highOf (bits rate n) (rate .p)
+
+step : SymbolRate → ℕ → ℕ
+step rate n = stepOf (bits rate n) (rate .p) (high rate n)
+
+labelsOf : ℕ → SymbolRate → ℕ → ℕ
+labelsOf shaping rate n = ringsOfShaping (shapingOf shaping (shellOf (high rate n))) * 2 ^ uncodedOf (high rate n)
+
+-- what only the table knows
+record Tabled (rate : SymbolRate) (n : ℕ) : Type 0 where
+  bits-most : bits rate n ≤ 1248
+  high-least : 8 ≤ high rate n
+  high-most : high rate n ≤ 79
+  low-least : step rate n < rate .p → 9 ≤ high rate n
+  minimum-labels : labelsOf 0 rate n ≤ 416
+  expanded-labels : labelsOf 1 rate n ≤ 416
+
+tabled :
+    (s n : ℕ) (rate : SymbolRate) → symbolRate s ≡ Known rate → rate .least ≤ n → n ≤ rate .most → Tabled rate n
+unfolding passesBelow symbolRate rowOf bits high step labelsOf bitsOf highOf stepOf uncodedOf shellOf shapingOf minimumOf nearestOf expandedOf smallest
+tabled s n rate e from to =
+    record {
+      bits-most = leb-true (bits rate n) 1248 (here (λ r k. leb (bits r k) 1248) refl);
+      high-least = leb-true 8 (high rate n) (here (λ r k. leb 8 (high r k)) refl);
+      high-most = leb-true (high rate n) 79 (here (λ r k. leb (high r k) 79) refl);
+      low-least = λ l. low l (here (λ r k. leb (r .p) (step r k) || leb 9 (high r k)) refl);
+      minimum-labels = leb-true (labelsOf 0 rate n) 416 (here (λ r k. leb (labelsOf 0 r k) 416) refl);
+      expanded-labels = leb-true (labelsOf 1 rate n) 416 (here (λ r k. leb (labelsOf 1 r k) 416) refl);
+    }
+  where
+    here : (test : SymbolRate → ℕ → Bool) → atEachPair test ≡ true → test rate n ≡ true
+    here test passes = each-pair test passes s n rate e from to (in-range s rate n e from to .most)
+
+    low : step rate n < rate .p → (leb (rate .p) (step rate n) || leb 9 (high rate n)) ≡ true → 9 ≤ high rate n
+    low l t = leb-true 9 (high rate n) (rw (lt-leb (rate .p) (step rate n) l) at t)
+
+-- a shaping is one of the two
+either : (shaping : ℕ) (P : ℕ → Type 0) → shaping ≤ 1 → P 0 → P 1 → P shaping
+either zero P h a b = a
+either (suc zero) P h a b = b
+either (suc (suc k)) P h a b = absurd (omega arith)
+
+-- the settings of a rate that s names and n in its range
+settings-sound :
+    (role s n shaping : ℕ) (rate : SymbolRate) → role ≤ 1 → shaping ≤ 1
+    → symbolRate s ≡ Known rate → rate .least ≤ n → n ≤ rate .most → Sound (settingsOf role rate n shaping)
+unfolding settingsOf bits high step labelsOf pointsOf
+settings-sound role s n shaping rate end kind e from to =
+    let i = in-range s rate n e from to in
+    let t = tabled s n rate e from to in
+    let d = divided (bits rate n) (rate .p) (bits-least (rate .j) n (i .least)) (omega arith) in
+    let q = uncoded-is (high rate n) in
+    let k = shell-is (high rate n) in
+    record {
+      end = end;
+      bits-most = t .bits-most;
+      frames-least = i .fewest;
+      frames-most = i .fullest;
+      holds = d .holds;
+      fewer = d .fewer;
+      high-least = t .high-least;
+      high-most = t .high-most;
+      step-some = d .some;
+      step-most = d .most;
+      step-is = d .whole;
+      frame = data-frame (bits rate n) (rate .p) (high rate n) (step rate n) (d .some) (d .most) (omega (arith, t .high-least)) (omega (arith, d .whole));
+      low-least = t .low-least;
+      shell-most = omega (arith, shell-below (high rate n));
+      uncoded-most = omega (arith, q, t .high-most);
+      plain = λ h. (omega (arith, k), omega (arith, q));
+      shaped = λ h. (omega (arith, k), omega (arith, q, k));
+      rings = rings-permitted shaping (shellOf (high rate n)) (shell-below (high rate n));
+      points-are = refl;
+      labels = either shaping (λ v. labelsOf v rate n ≤ 416) kind (t .minimum-labels) (t .expanded-labels);
+    }
+
+-- all accepted settings are sound
+pub accepted-sound : (role s n shaping mark : ℕ) (c : Settings) → workedOf role s n shaping mark ≡ Accepted c → Sound c
+accepted-sound role s n shaping mark c e = go (symbolRate s) refl (right .range)
+  where
+    right : Right role s n shaping mark
+    right = accepted-when role s n shaping mark .0 (c, e)
+
+    go : (rate : Rate) → symbolRate s ≡ rate → Within rate n → Sound c
+    go (Known rate) f w =
+        subst Sound same (settings-sound role s n shaping rate (right .end) (right .kind) f (w .0) (w .1))
+      where
+        same : settingsOf role rate n shaping ≡ c
+        same =
+            let u = unrefused-is role s n shaping mark (right-unrefused role s n shaping mark right) in
+            let v = known-accepted role s n shaping rate f in
+            cc
+    go Unknown f w = absurd w
+
+-- and no frame of theirs has fewer than 8 bits, or more than b
+pub frame-between :
+    (c : Settings) → Sound c → (k : ℕ)
+    → (8 ≤ frameBits (c .frames) (c .high) (c .step) (counterAt (c .frames) (c .step) k))
+    × (frameBits (c .frames) (c .high) (c .step) (counterAt (c .frames) (c .step) k) ≤ c .high)
+unfolding frameBits
+frame-between c z k = go (leb (c .frames) (counterAt (c .frames) (c .step) k + c .step)) refl
+  where
+    go :
+        (v : Bool) → leb (c .frames) (counterAt (c .frames) (c .step) k + c .step) ≡ v
+        → (8 ≤ cond v (c .high) (c .high - 1)) × (cond v (c .high) (c .high - 1) ≤ c .high)
+    go true e = (z .high-least, omega arith)
+    go false e =
+        let l = leb-false (c .frames) _ e in
+        let m = z .low-least (omega arith) in
+        (omega arith, omega arith)
