@@ -1,0 +1,3 @@
+-- Clause 7.
+--     Scrambler    both polynomials, there and back, over lists of bits
+pub mod Scrambler
