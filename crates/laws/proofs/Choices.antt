@@ -3,9 +3,10 @@
 use mathlib.Core.Bool.{Bool, true, false, cond}
 use mathlib.Core.List.{List, [], _∷_, _++_}
 use mathlib.Core.Path.{_≡_, refl, sym, ap, _∙_}
-use Prim.Native.Nat.{ℕ, suc}
+use Prim.Native.Nat.{ℕ, suc, _≤_}
 use native.Mathlib.Omega.{arith}
 use Rattle.laws.specs.Choice.{refusal}
+use Rattle.laws.specs.Lists.{Every}
 
 pub no-tests : refusal [] ≡ 0
 unfolding refusal
@@ -41,3 +42,13 @@ given-before (test ∷ tests) more h = go (test .0) h (given-before tests more)
         → cond v (test .1) (refusal (tests ++ more)) ≡ cond v (test .1) (refusal tests)
     go true k later = refl
     go false k later = later k
+
+-- where no listed number is above m, the one that is given is not
+pub refusal-most : (m : ℕ) (tests : List (Bool × ℕ)) → Every (λ (t : Bool × ℕ). t .1 ≤ m) tests → refusal tests ≤ m
+unfolding refusal
+refusal-most m [] listed = omega arith
+refusal-most m (t ∷ tests) listed = go (t .0) (listed .0) (refusal-most m tests (listed .1))
+  where
+    go : (v : Bool) → t .1 ≤ m → refusal tests ≤ m → cond v (t .1) (refusal tests) ≤ m
+    go true h k = h
+    go false h k = k

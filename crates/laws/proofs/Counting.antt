@@ -49,6 +49,15 @@ module _ {X : Type 0} where
   every-append P [] ys a b = b
   every-append P (x ∷ xs) ys a b = (a .0, every-append P xs ys (a .1) b)
 
+  -- and what holds of two lists together holds of each
+  pub every-left : (P : X → Type 0) (xs ys : List X) → Every P (xs ++ ys) → Every P xs
+  every-left P [] ys a = tt
+  every-left P (x ∷ xs) ys a = (a .0, every-left P xs ys (a .1))
+
+  pub every-right : (P : X → Type 0) (xs ys : List X) → Every P (xs ++ ys) → Every P ys
+  every-right P [] ys a = a
+  every-right P (x ∷ xs) ys a = every-right P xs ys (a .1)
+
   pub every-map : {Y : Type 0} (P : Y → Type 0) (f : X → Y) → ((x : X) → P (f x)) → (xs : List X) → Every P (map f xs)
   every-map P f h [] = tt
   every-map P f h (x ∷ xs) = (h x, every-map P f h xs)

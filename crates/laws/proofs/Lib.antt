@@ -8,8 +8,9 @@
 --     Tables      a rule at every number below a limit, by one computed test
 --     Powers      powers by squaring and by a shift
 --     Orders      the packing law: F b + r compares as b, then as r
---     Convolution   lists of values, of sums over two places and of running sums
+--     Convolution  lists of values, of sums over two places and of running sums
 --     Counting    if each number is hit once, as many items are below s as s says
+--     Puts        a text put behind a text
 pub mod Bools
 pub mod Choices
 pub mod Sums
@@ -21,3 +22,4 @@ pub mod Tables
 pub mod Powers
 pub mod Orders
 pub mod Counting
+pub mod Puts

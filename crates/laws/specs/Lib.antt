@@ -5,9 +5,11 @@
 --     Lists     the numbers below n, all pairs out of two lists, how many of a list pass a test, what holds of each
 --     Order     two lists of numbers compared by the first place at which they differ
 --     Choice    the first refusal whose test holds
+--     Put       a text put into a buffer at a place
 pub mod Sum
 pub mod Largest
 pub mod Smallest
 pub mod Lists
 pub mod Order
 pub mod Choice
+pub mod Put

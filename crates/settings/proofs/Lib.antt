@@ -1,0 +1,11 @@
+-- What is proved of the settings program.
+--     Decimals    decimal is right
+--     Joins       numbers with spaces between
+--     Fitting     every line fits into 40 bytes
+--     Outcomes    at most one outcome fits the contract
+--     Worked      inputs with their lines
+pub mod Decimals
+pub mod Joins
+pub mod Fitting
+pub mod Outcomes
+pub mod Worked
