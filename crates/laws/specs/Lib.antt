@@ -6,6 +6,8 @@
 --     Order     two lists of numbers compared by the first place at which they differ
 --     Choice    the first refusal whose test holds
 --     Put       a text put into a buffer at a place
+--     Digits    whole numbers as bits, lowest weight first
+--     Emit      lists that are made part by part
 pub mod Sum
 pub mod Largest
 pub mod Smallest
@@ -13,3 +15,5 @@ pub mod Lists
 pub mod Order
 pub mod Choice
 pub mod Put
+pub mod Digits
+pub mod Emit

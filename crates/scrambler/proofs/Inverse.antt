@@ -6,7 +6,7 @@ use Prim.Native.Nat.{ℕ, suc, _+_, _*_, _%_, _/_, _^_, _≤_, _<_}
 use native.Mathlib.Nat.{mod-lt}
 use native.Mathlib.Omega.{arith}
 use lib.ListN.{length}
-use Rattle.laws.specs.Lists.{Every}
+use Rattle.laws.specs.Digits.{Bits}
 use Rattle.scrambler.specs.Scrambler.{placeBack, nearPlace, scrambledBit, push, pushAll, scramble, descramble}
 
 -- a place of the register is a bit
@@ -33,10 +33,6 @@ pub pushAll-below : (register : ℕ) (bits : List ℕ) → register < 2 ^ 23 →
 unfolding pushAll
 pushAll-below register [] h = h
 pushAll-below register (bit ∷ bits) h = pushAll-below (push register bit) bits (push-below register bit)
-
--- a list of bits
-abbrev pub Bits : List ℕ → Type 0
-Bits = Every (λ bit. bit ≤ 1)
 
 pub length-scramble : (role register : ℕ) (bits : List ℕ) → length (scramble role register bits) ≡ length bits
 unfolding scramble

@@ -7,9 +7,8 @@ use native.Mathlib.Decide.{decLe}
 use native.Mathlib.Omega.{arith}
 use lib.ListN.{length, getD}
 use lib.Pow.{field, mod-mod-pow, shr-shr}
-use Rattle.laws.specs.Lists.{Every}
+use Rattle.laws.specs.Digits.{Bits}
 use Rattle.scrambler.specs.Scrambler.{placeBack, push, pushAll}
-use Rattle.scrambler.proofs.Inverse.{Bits}
 
 -- one place back is the bit pushed last
 pub place-last : (register bit : ℕ) → bit ≤ 1 → placeBack (push register bit) 1 ≡ bit

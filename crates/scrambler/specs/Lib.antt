@@ -1,3 +1,5 @@
 -- Clause 7.
 --     Scrambler    both polynomials, there and back, over lists of bits
+--     Parts        what the code does with slices of bits
 pub mod Scrambler
+pub mod Parts

@@ -1,0 +1,20 @@
+-- `frame::read::label_at` meets its contract. Assumes nothing.
+use native.Mathlib.Omega.{arith}
+use borrow.Author.Needs.{needs}
+use Rattle.frame.proofs.read.label_at.Statement.{statement}
+use Rattle.frame.proofs.read.label_at.Tie as tie
+
+mul-result : tie.Need-mul-result
+mul-result c = search needs
+
+shared-slice-read-result : tie.Need-shared-slice-read-result
+shared-slice-read-result c = search needs
+
+cast-result : tie.Need-cast-result
+cast-result c = omega (arith, c .shared-slice-known .given (c .before .args .at))
+
+returns : tie.Need-returns
+returns c = search needs
+
+pub label-at-spec : {M : Type 1} → statement M
+label-at-spec = tie.close (tie.spec mul-result shared-slice-read-result cast-result returns)

@@ -1,0 +1,7 @@
+-- One mapping frame (document 01, "From bits to labels"; V.34, clauses 9.3 and 9.5).
+--     Shape       how many bits of a frame go where
+--     Writing     from a frame's bits to its sixteen labels
+--     Reading     from sixteen labels to a frame's bits, and when they are accepted
+pub mod Shape
+pub mod Writing
+pub mod Reading

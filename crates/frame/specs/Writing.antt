@@ -1,0 +1,95 @@
+-- From bits to labels (document 01, "Parsing", "Differential coding" and "Labels"; clauses 9.3, 9.5 and 9.6.1). For each 4D symbol four
+-- numbers are written: 2^q·ring + q bits for the first 2D symbol, the same for the second, Z, I1. Z is what it was, plus I2 + 2·I3,
+-- modulo 4, and goes on from symbol to symbol and from frame to frame. For q = 1, rings 2 and 0, Z before 3 and the bits 1 0 1 1 0:
+--
+--     I1 = 1, I2 = 0, I3 = 1, then 1 and 0     2·2 + 1 = 5, 2·0 + 0 = 0, Z = (3 + 0 + 2) mod 4 = 1, I1 = 1
+use mathlib.Core.Bool.{Bool, cond}
+use mathlib.Core.List.{List, [], _∷_}
+use mathlib.Core.Path.{_≡_}
+use Prim.Native.Nat.{ℕ, _+_, _*_, _-_, _%_, _^_, _≤_}
+use lib.Dec.{ltb}
+use lib.ListN.{length, getD, take, drop}
+use Rattle.laws.specs.Digits.{value, Bits}
+use Rattle.laws.specs.Emit.{emit, iter}
+use Rattle.listing.specs.Number.{ringsOf}
+use Rattle.listing.specs.Sets.{asList}
+use Rattle.frame.specs.declared.shape.Shape.{Shape}
+use Rattle.frame.specs.declared.symbol.Symbol.{Symbol}
+use Rattle.rings.specs.Counts.{CountsOf}
+use Rattle.rings.specs.declared.counts.Counts.{Counts}
+use Rattle.frame.specs.Shape.{symbolLength, frameLength}
+
+-- a 4D symbol out of the bits at the head of a list; `three` says whether it carries I3
+unfoldable pub symbolOf : ℕ → Bool → List ℕ → Symbol
+symbolOf q three bits =
+    let rest = drop (cond three 3 2) bits in
+    record {
+      i1 = getD bits 0 0;
+      i2 = getD bits 1 0;
+      i3 = cond three (getD bits 2 0) 0;
+      first = value (take q rest);
+      second = value (take q (drop q rest));
+    }
+
+-- Z after a symbol
+unfoldable pub turned : ℕ → Symbol → ℕ
+turned z symbol = (z + symbol .i2 + 2 * symbol .i3) % 4
+
+-- what is left to write of a frame: the bits, the rings, how many of the next symbols carry I3, and Z
+pub record Writing : Type 0 where
+  pub bits : List ℕ
+  pub rings : List ℕ
+  pub threes : ℕ
+  pub z : ℕ
+
+-- the next symbol, its four labels, and what is left then
+abbrev pub nextSymbol : ℕ → Writing → Symbol
+nextSymbol q w = symbolOf q (ltb 0 (w .threes)) (w .bits)
+
+unfoldable pub symbolLabels : ℕ → Writing → List ℕ
+symbolLabels q w =
+    let symbol = nextSymbol q w in
+    (2 ^ q * getD (w .rings) 0 0 + symbol .first)
+    ∷ (2 ^ q * getD (w .rings) 1 0 + symbol .second)
+    ∷ turned (w .z) symbol
+    ∷ symbol .i1
+    ∷ []
+
+unfoldable pub afterSymbol : ℕ → Writing → Writing
+afterSymbol q w =
+    record {
+      bits = drop (symbolLength q (ltb 0 (w .threes))) (w .bits);
+      rings = drop 2 (w .rings);
+      threes = w .threes - 1;
+      z = turned (w .z) (nextSymbol q w);
+    }
+
+-- a frame at its start: S is taken off the bits, and gives the rings
+unfoldable pub frameStart : ℕ → Shape → ℕ → List ℕ → Writing
+frameStart M shape z bits =
+    record {
+      bits = drop (shape .shell) bits;
+      rings = asList (ringsOf M (value (take (shape .shell) bits)));
+      threes = shape .threes;
+      z = z;
+    }
+
+-- the sixteen labels of a frame, and Z after it
+unfoldable pub frameLabels : ℕ → Shape → ℕ → List ℕ → List ℕ
+frameLabels M shape z bits = emit (symbolLabels (shape .uncoded)) (afterSymbol (shape .uncoded)) 4 (frameStart M shape z bits)
+
+unfoldable pub frameTurned : ℕ → Shape → ℕ → List ℕ → ℕ
+frameTurned M shape z bits = iter (afterSymbol (shape .uncoded)) 4 (frameStart M shape z bits) .z
+
+-- what has to hold where a frame is written: the counts are those of their M, S has room among the M^8 sets, the bits are bits and as
+-- many as the frame has, and sixteen labels are lent
+pub record Writable (c : Counts) (shape : Shape) (z : ℕ) (bits out : List ℕ) : Type 0 where
+  pub counts : CountsOf (c .m) c
+  pub few : shape .shell ≤ 31
+  pub room : 2 ^ shape .shell ≤ c .m ^ 8
+  pub threes : shape .threes ≤ 4
+  pub uncoded : shape .uncoded ≤ 5
+  pub turn : z ≤ 3
+  pub binary : Bits bits
+  pub size : length bits ≡ frameLength shape
+  pub sixteen : length out ≡ 16

@@ -1,0 +1,42 @@
+// How many bits of a frame go where.
+ghost use mathlib.Core.Bool.{false};
+ghost use mathlib.Core.Path.{_≡_};
+ghost use Prim.Native.Nat.{_≤_};
+ghost use Rattle.frame.specs.Shape.{lengthOf, shapeOf, Shaped};
+use line::Settings;
+
+pub struct Shape {
+    pub shell: usize,
+    pub threes: usize,
+    pub uncoded: usize,
+}
+
+// One less in a low frame.
+fn length_of(b: u64, high: bool) -> u64
+    requires { ⌜ (high ≡ false → 1 ≤ b) ⌝ }
+    ensures { λ r. ⌜ r ≡ lengthOf b high ⌝ }
+{
+    if high {
+        return b;
+    }
+    b - 1
+}
+
+// The shape of a high or a low frame of a line.
+pub fn shape_of(c: Settings, high: bool) -> Shape
+    requires { ⌜ Shaped c high ⌝ }
+    ensures { λ r. ⌜ r ≡ shapeOf c high ⌝ }
+{
+    if c.high <= 12 {
+        return Shape {
+            shell: 0,
+            threes: length_of(c.high, high) as usize - 8,
+            uncoded: 0,
+        };
+    }
+    Shape {
+        shell: length_of(c.shell, high) as usize,
+        threes: 4,
+        uncoded: c.uncoded as usize,
+    }
+}
