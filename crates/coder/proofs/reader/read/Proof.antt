@@ -1,0 +1,112 @@
+-- `coder::reader::read` meets its contract: the settings refuse, or a test does, or the data frame is received. Assumes nothing.
+use mathlib.Core.Path.{_≡_, sym, _∙_}
+use borrow.Author.Needs.{needs}
+use Rattle.line.specs.declared.settings.Worked.the-variants.{Accepted}
+use Rattle.rings.specs.Counts.{CountsOf}
+use Rattle.coder.specs.Sending.{ringCount}
+use Rattle.coder.specs.State.{workedIn}
+use Rattle.coder.proofs.Passes.{settled-in, sound-of}
+use Rattle.coder.proofs.Refused.{receivable, settings-refused, frame-refused, frame-received}
+use Rattle.coder.proofs.reader.read.Statement.{statement}
+use Rattle.coder.proofs.reader.read.Tie as tie
+
+-- the settings are accepted
+worked : (k : tie.After-w) → workedIn (k .before .before .before .before .before .args .st) ≡ Accepted (k .w .given .0 .0)
+worked k = sym (k .before .before .work-out .ensures) ∙ k .w .given .1
+
+work-out-requires : tie.Need-work-out-requires
+work-out-requires c κs = search needs
+
+enum-known-w : tie.Need-enum-known-w
+enum-known-w c = search needs
+
+enum-told : tie.Need-enum-told
+enum-told c = search needs
+
+refusal-of-requires : tie.Need-refusal-of-requires
+refusal-of-requires c κs = search needs
+
+refused-requires : tie.Need-refused-requires
+refused-requires c κs = search needs
+
+returns : tie.Need-returns
+returns c =
+    let k = c .before .before in
+    let w = k .before .before in
+    let a = w .before .before .before .args in
+    rw (c .refused .ensures, c .before .refusal-of .ensures)
+    (settings-refused (a .st) (a .labels .now) (a .bits .now) _ _ (w .work-out .ensures) (k .enum-told .given .1))
+
+rings-of-shaping-requires : tie.Need-rings-of-shaping-requires
+rings-of-shaping-requires c κs = search needs
+
+counts-of-requires : tie.Need-counts-of-requires
+counts-of-requires c κs =
+    let k = c .before .before in
+    let s = k .before .before .before .before .before in
+    let r = sound-of (settled-in (s .args .st) _ (worked k)) .rings in
+    rw (c .rings-of-shaping .ensures) (record { low = r .some; high = r .most })
+
+-- and the counts are those of their M
+counted : (k : tie.After-counts-of) → CountsOf (ringCount (k .before .before .before .w .given .0 .0)) (k .counts-of .result)
+counted k = rw (← k .before .rings-of-shaping .ensures) (k .counts-of .ensures)
+
+read-refusal-requires : tie.Need-read-refusal-requires
+read-refusal-requires c κs = (worked (c .before .before .before), counted c)
+
+refused-requires-2 : tie.Need-refused-requires-2
+refused-requires-2 c κs = search needs
+
+returns-2 : tie.Need-returns-2
+returns-2 c =
+    let t = c .before in
+    let n = t .before in
+    let k = n .before .before .before .before in
+    let a = k .before .before .before .before .before .args in
+    rw (c .refused2 .ensures)
+    (frame-refused (a .st) (a .labels .now) (a .bits .now) _ (n .read-refusal .result) (worked k) (n .read-refusal .ensures) (t .if1 .taken))
+
+receive-requires : tie.Need-receive-requires
+receive-requires c κs =
+    let e = c .before in
+    let n = e .before in
+    let k = n .before .before .before .before in
+    let a = k .before .before .before .before .before .args in
+    (receivable (a .st) _ (a .labels .now) (a .bits .now) (worked k) (sym (n .read-refusal .ensures) ∙ e .if1 .left), counted (n .before))
+
+moved-on-requires : tie.Need-moved-on-requires
+moved-on-requires c κs = search needs
+
+same-length : tie.Need-same-length
+same-length c = search needs
+
+returns-3 : tie.Need-returns-3
+returns-3 c =
+    let m = c .before .before .before in
+    let e = m .before .before in
+    let n = e .before in
+    let k = n .before .before .before .before in
+    let a = k .before .before .before .before .before .args in
+    rw (c .moved-on .ensures)
+    (frame-received (a .st) (a .labels .now) (a .bits .now) (k .w .given .0 .0) _ (m .receive .result) (worked k) (sym (n .read-refusal .ensures) ∙ e .if1 .left)
+    (m .receive .ensures .0) (m .receive .ensures .1 .0) (m .receive .ensures .1 .1))
+
+pub read-spec : {M : Type 1} → statement M
+read-spec =
+    tie.close
+    (tie.spec
+    work-out-requires
+    enum-known-w
+    enum-told
+    refusal-of-requires
+    refused-requires
+    returns
+    rings-of-shaping-requires
+    counts-of-requires
+    read-refusal-requires
+    refused-requires-2
+    returns-2
+    receive-requires
+    moved-on-requires
+    same-length
+    returns-3)

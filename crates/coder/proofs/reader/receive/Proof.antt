@@ -1,0 +1,177 @@
+-- `coder::reader::receive` meets its contract. The loop's invariant: the bits of the frames that are done and those of the frames that
+-- are left make the whole. Assumes nothing.
+use mathlib.Core.Path.{_≡_, refl, sym, ap, _∙_}
+use Prim.Native.Nat.{ℕ, _+_, _*_, _-_, _≤_}
+use native.Mathlib.Omega.{arith}
+use lib.ListN.{length}
+use Rattle.line.proofs.Soundness.{Sound}
+use Rattle.frame.specs.Shape.{frameLength}
+use Rattle.coder.specs.Turns.{Settled}
+use Rattle.coder.specs.Sending.{shapeNext}
+use Rattle.coder.proofs.Passes.{sound-of, settled-in}
+use Rattle.coder.proofs.Incoming.{Halfway, halfway-none, frame-room, frame-receivable, halfway-more, halfway-all, halfway-register, halfway-turned}
+use Rattle.coder.proofs.reader.receive.Statement.{statement}
+use Rattle.coder.proofs.reader.receive.Tie as tie
+
+abbrev Inv-loop : tie.InvT-loop
+Inv-loop c counts labels bits₀ moved₀ counter₀ at₀ k₀ bits moved counter at k =
+    Halfway c labels (moved₀ .z) (moved₀ .register) k moved counter at bits
+
+abbrev μ-loop : tie.MeasureT-loop
+μ-loop c counts labels bits₀ moved₀ counter₀ at₀ k₀ bits moved counter at k = c .frames - k
+
+-- the function's start, from a turn
+abbrev start-of : tie.In-loop Inv-loop μ-loop → tie.Start Inv-loop μ-loop
+start-of k = k .before .before .before .before
+
+settled : (k : tie.Start Inv-loop μ-loop) → Settled (k .args .c)
+settled k = settled-in (k .args .st) (k .args .c) (k .pre .0 .worked)
+
+sound : (k : tie.Start Inv-loop μ-loop) → Sound (k .args .c)
+sound k = sound-of (settled k)
+
+-- no frame is done
+none :
+    (k : tie.Start Inv-loop μ-loop)
+    → let a = k .args in
+    Halfway (a .c) (a .labels .now) (a .st .z) (a .st .register) 0 (record { register = a .st .register; z = a .st .z }) 0 0 (a .bits .now)
+none k =
+    let a = k .args in
+    let p = k .pre .0 in
+    halfway-none (a .c) (sound k) (a .labels .now) (a .st .z) (a .st .register) (a .bits .now)
+    (record { size = p .count; ranges = p .ranges; numbers = p .numbers; steps = p .steps; turn = p .turn }) (p .held) (p .size)
+
+loop-holds : tie.Need-loop-holds Inv-loop μ-loop
+loop-holds c = none (c .before .before)
+
+next-of-requires : tie.Need-next-of-requires Inv-loop μ-loop
+next-of-requires c κs = (settled (start-of c), c .before .loop .inv .below)
+
+-- the labels of this frame are there
+labels-there : (k : tie.In-loop Inv-loop μ-loop) → 16 * k .before .loop .k + 16 ≤ 256
+labels-there k = let s = sound (start-of k) in omega (arith, s .frames-most, k .loop-test .taken)
+
+-- and where its bits end
+end-is :
+    (k : tie.After-next-of Inv-loop μ-loop)
+    → let l = k .before .before .loop in
+    l .at + k .next-of .result .size ≡ l .at + frameLength (shapeNext (start-of (k .before) .args .c) (l .counter))
+end-is k = ap (λ (n : ℕ). k .before .before .loop .at + n) (k .next-of .ensures .size)
+
+-- is inside the buffer, which has at most 1248 bits
+room :
+    (k : tie.After-next-of Inv-loop μ-loop)
+    → let l = k .before .before .loop in
+    (l .at + k .next-of .result .size ≤ length (l .bits)) × (length (l .bits) ≤ 1248)
+room k =
+    let t = k .before in
+    let l = t .before .loop in
+    let s = start-of t in
+    let a = s .args in (
+      omega (arith, end-is k, frame-room (a .c) (sound s) (a .labels .now) (a .st .z) (a .st .register) (l .k) (l .moved) (l .counter) (l .at) (l .bits) (l .inv) (t .loop-test .taken)),
+      omega (arith, l .inv .filling .size, none s .filling .size, s .pre .0 .size, sound s .bits-most),
+    )
+
+add-end : tie.Need-add-end Inv-loop μ-loop
+add-end c = let r = room (c .before) in omega (arith, r .0, r .1)
+
+mul-receive-frame : tie.Need-mul-receive-frame Inv-loop μ-loop
+mul-receive-frame c = omega (arith, labels-there (c .before .before))
+
+mul-receive-frame-2 : tie.Need-mul-receive-frame-2 Inv-loop μ-loop
+mul-receive-frame-2 c = omega (arith, labels-there (c .before .before))
+
+add-receive-frame : tie.Need-add-receive-frame Inv-loop μ-loop
+add-receive-frame c = omega (arith, labels-there (c .before .before))
+
+mul-receive-frame-3 : tie.Need-mul-receive-frame-3 Inv-loop μ-loop
+mul-receive-frame-3 c = omega (arith, labels-there (c .before .before))
+
+sub-receive-frame : tie.Need-sub-receive-frame Inv-loop μ-loop
+sub-receive-frame c = omega arith
+
+part-receive-frame-start : tie.Need-part-receive-frame-start Inv-loop μ-loop
+part-receive-frame-start c = omega arith
+
+part-receive-frame-end : tie.Need-part-receive-frame-end Inv-loop μ-loop
+part-receive-frame-end c = let t = c .before .before in omega (arith, start-of t .pre .0 .count, t .loop-test .taken)
+
+sub-receive-frame-2 : tie.Need-sub-receive-frame-2 Inv-loop μ-loop
+sub-receive-frame-2 c = omega arith
+
+part-receive-frame-start-2 : tie.Need-part-receive-frame-start-2 Inv-loop μ-loop
+part-receive-frame-start-2 c = omega arith
+
+part-receive-frame-end-2 : tie.Need-part-receive-frame-end-2 Inv-loop μ-loop
+part-receive-frame-end-2 c = room (c .before .before) .0
+
+receive-frame-requires : tie.Need-receive-frame-requires Inv-loop μ-loop
+receive-frame-requires c κs =
+    let n = c .before .before .before in
+    let t = n .before in
+    let l = t .before .loop in
+    let s = start-of t in
+    let a = s .args in
+    frame-receivable (a .c) (sound s) (a .labels .now) (a .st .z) (a .st .register) (l .k) (l .moved) (l .counter) (l .at) (l .bits) (l .inv) (t .loop-test .taken)
+    (a .counts) (s .pre .1) _ (n .next-of .ensures .shape) _ (end-is n) (s .pre .0 .count)
+
+-- from the end of a turn back to the loop's test
+abbrev turn-of : tie.After-slice-known2 Inv-loop μ-loop → tie.In-loop Inv-loop μ-loop
+turn-of k = k .before .before .before .before .before .before .before
+
+add-k : tie.Need-add-k Inv-loop μ-loop
+add-k c = omega (arith, labels-there (turn-of c))
+
+loop-less : tie.Need-loop-less Inv-loop μ-loop
+loop-less c = omega (arith, turn-of c .loop-test .taken)
+
+loop-again : tie.Need-loop-again Inv-loop μ-loop
+loop-again c =
+    let f = c .before .before in
+    let n = f .before .before .before .before in
+    let t = n .before in
+    let l = t .before .loop in
+    let s = start-of t in
+    let a = s .args in
+    halfway-more (a .c) (sound s) (a .labels .now) (a .st .z) (a .st .register) (l .k) (l .moved) (l .counter) (l .at) (l .bits) (l .inv) (t .loop-test .taken)
+    _ _ _ _ _ _ _ (s .pre .1 .of) (n .next-of .ensures .shape) (f .receive-frame .ensures) (end-is n) (n .next-of .ensures .counted) refl
+
+same-length : tie.Need-same-length Inv-loop μ-loop
+same-length c = c .before .loop .inv .filling .size ∙ sym (none (c .before .before .before .before) .filling .size)
+
+returns : tie.Need-returns Inv-loop μ-loop
+returns c =
+    let l = c .before .loop in
+    let a = c .before .before .before .before .args in (
+      halfway-all (a .c) (a .labels .now) (a .st .z) (a .st .register) (l .k) (l .moved) (l .counter) (l .at) (l .bits) (l .inv) (c .loop-test .left),
+      (
+        halfway-register (a .c) (a .labels .now) (a .st .z) (a .st .register) (l .k) (l .moved) (l .counter) (l .at) (l .bits) (l .inv) (c .loop-test .left),
+        halfway-turned (a .c) (a .labels .now) (a .st .z) (a .st .register) (l .k) (l .moved) (l .counter) (l .at) (l .bits) (l .inv) (c .loop-test .left),
+      ),
+    )
+
+pub receive-spec : {M : Type 1} → statement M
+receive-spec =
+    tie.close
+    (tie.spec
+    Inv-loop
+    μ-loop
+    loop-holds
+    next-of-requires
+    add-end
+    mul-receive-frame
+    mul-receive-frame-2
+    add-receive-frame
+    mul-receive-frame-3
+    sub-receive-frame
+    part-receive-frame-start
+    part-receive-frame-end
+    sub-receive-frame-2
+    part-receive-frame-start-2
+    part-receive-frame-end-2
+    receive-frame-requires
+    add-k
+    loop-less
+    loop-again
+    same-length
+    returns)

@@ -1,0 +1,65 @@
+-- The labels of a data frame (document 01, "From bits to labels"). The N bits are scrambled; then P mapping frames take b or b − 1 of them
+-- each, as the switching counter says, and write sixteen labels. Z goes on from frame to frame. For s 0, n 1 there are twelve frames of
+-- eight bits:
+--
+--     bits 0 to 7     labels 0 to 15
+--     bits 8 to 15    labels 16 to 31
+--     ..
+use mathlib.Core.List.{List}
+use Prim.Native.Nat.{ℕ}
+use lib.ListN.{take, drop}
+use Rattle.laws.specs.Emit.{emit, iter}
+use Rattle.line.specs.Settings.{ringsOfShaping}
+use Rattle.line.specs.Switching.{isHigh, counterAfter}
+use Rattle.line.specs.declared.settings.Settings.{Settings}
+use Rattle.frame.specs.Shape.{shapeOf, lengthOf}
+use Rattle.frame.specs.Writing.{frameLabels, frameTurned}
+use Rattle.frame.specs.declared.shape.Shape.{Shape}
+use Rattle.scrambler.specs.Scrambler.{scramble, pushAll}
+use mathlib.Core.Bool.{Bool}
+
+-- the ring count M of settings
+abbrev pub ringCount : Settings → ℕ
+ringCount c = ringsOfShaping (c .shaping)
+
+-- what is left to send of a data frame: the scrambled bits, the switching counter, and Z
+pub record Sending : Type 0 where
+  pub bits : List ℕ
+  pub counter : ℕ
+  pub z : ℕ
+
+-- whether the next frame is high, its shape and its bits
+abbrev pub highNext : Settings → ℕ → Bool
+highNext c counter = isHigh (c .frames) (c .step) counter
+
+abbrev pub shapeNext : Settings → ℕ → Shape
+shapeNext c counter = shapeOf c (highNext c counter)
+
+abbrev pub lengthNext : Settings → ℕ → ℕ
+lengthNext c counter = lengthOf (c .high) (highNext c counter)
+
+-- its labels, and what is left then
+unfoldable pub nextLabels : Settings → Sending → List ℕ
+nextLabels c t = frameLabels (ringCount c) (shapeNext c (t .counter)) (t .z) (take (lengthNext c (t .counter)) (t .bits))
+
+unfoldable pub afterLabels : Settings → Sending → Sending
+afterLabels c t =
+    record {
+      bits = drop (lengthNext c (t .counter)) (t .bits);
+      counter = counterAfter (c .frames) (c .step) (t .counter);
+      z = frameTurned (ringCount c) (shapeNext c (t .counter)) (t .z) (take (lengthNext c (t .counter)) (t .bits));
+    }
+
+-- a data frame at its start
+abbrev pub sendingOf : Settings → ℕ → ℕ → List ℕ → Sending
+sendingOf c register z bits = record { bits = scramble (c .role) register bits; counter = 0; z = z }
+
+-- the 16·P labels of a data frame, the register and Z after it
+unfoldable pub dataLabels : Settings → ℕ → ℕ → List ℕ → List ℕ
+dataLabels c register z bits = emit (nextLabels c) (afterLabels c) (c .frames) (sendingOf c register z bits)
+
+unfoldable pub dataRegister : Settings → ℕ → List ℕ → ℕ
+dataRegister c register bits = pushAll register (scramble (c .role) register bits)
+
+unfoldable pub dataTurned : Settings → ℕ → ℕ → List ℕ → ℕ
+dataTurned c register z bits = iter (afterLabels c) (c .frames) (sendingOf c register z bits) .z
