@@ -1,6 +1,6 @@
--- The labels of a data frame (document 01, "From bits to labels"). The N bits are scrambled; then P mapping frames take b or b − 1 of them
--- each, as the switching counter says, and write sixteen labels. Z goes on from frame to frame. For s 0, n 1 there are twelve frames of
--- eight bits:
+-- The labels of a data frame (document 01, "From bits to labels"; V.34, clauses 7, 8.1, 8.2, 9.3 to 9.5 and 9.6.1). The N bits are
+-- scrambled; then P mapping frames take b or b − 1 of them each, as the switching counter says, and write sixteen labels. Z goes on from
+-- frame to frame. For s 0, n 1 there are twelve frames of eight bits:
 --
 --     bits 0 to 7     labels 0 to 15
 --     bits 8 to 15    labels 16 to 31
@@ -18,17 +18,17 @@ use Rattle.frame.specs.declared.shape.Shape.{Shape}
 use Rattle.scrambler.specs.Scrambler.{scramble, pushAll}
 use mathlib.Core.Bool.{Bool}
 
--- the ring count M of settings
+-- the ring count M of settings (clause 9.2, Table 10)
 abbrev pub ringCount : Settings → ℕ
 ringCount c = ringsOfShaping (c .shaping)
 
--- what is left to send of a data frame: the scrambled bits, the switching counter, and Z
+-- what is left to send of a data frame: the scrambled bits (clause 7), the switching counter (8.2), and Z (9.5)
 pub record Sending : Type 0 where
   pub bits : List ℕ
   pub counter : ℕ
   pub z : ℕ
 
--- whether the next frame is high, its shape and its bits
+-- whether the next frame is high (clause 8.2), its shape (9.3) and how many bits it has (8.2)
 abbrev pub highNext : Settings → ℕ → Bool
 highNext c counter = isHigh (c .frames) (c .step) counter
 
@@ -38,7 +38,7 @@ shapeNext c counter = shapeOf c (highNext c counter)
 abbrev pub lengthNext : Settings → ℕ → ℕ
 lengthNext c counter = lengthOf (c .high) (highNext c counter)
 
--- its labels, and what is left then
+-- its labels (clauses 9.3, 9.4, 9.5 and 9.6.1), and what is left then: the counter goes on by 8.2, and Z by 9.5
 unfoldable pub nextLabels : Settings → Sending → List ℕ
 nextLabels c t = frameLabels (ringCount c) (shapeNext c (t .counter)) (t .z) (take (lengthNext c (t .counter)) (t .bits))
 
@@ -50,11 +50,11 @@ afterLabels c t =
       z = frameTurned (ringCount c) (shapeNext c (t .counter)) (t .z) (take (lengthNext c (t .counter)) (t .bits));
     }
 
--- a data frame at its start
+-- a data frame at its start: its bits are scrambled (clause 7), the counter is 0 (8.2), and Z goes on from the frame before (9.5)
 abbrev pub sendingOf : Settings → ℕ → ℕ → List ℕ → Sending
 sendingOf c register z bits = record { bits = scramble (c .role) register bits; counter = 0; z = z }
 
--- the 16·P labels of a data frame, the register and Z after it
+-- the 16·P labels of a data frame, which has P mapping frames (clause 8.1), the register (7) and Z (9.5) after it
 unfoldable pub dataLabels : Settings → ℕ → ℕ → List ℕ → List ℕ
 dataLabels c register z bits = emit (nextLabels c) (afterLabels c) (c .frames) (sendingOf c register z bits)
 

@@ -39,3 +39,20 @@ pub fn same_part(a: &[u8], b: &[u8], n: usize) -> bool {
     }
     check::same(&a[..n], &b[..n])
 }
+
+pub fn same_labels(a: &[u16], b: &[u16], m: usize) -> bool {
+    if m > a.len() {
+        return false;
+    }
+    if m > b.len() {
+        return false;
+    }
+    let mut i = 0;
+    while i < m {
+        if a[i] != b[i] {
+            return false;
+        }
+        i += 1;
+    }
+    true
+}

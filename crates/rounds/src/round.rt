@@ -1,6 +1,7 @@
-// One data frame there and back.
+// One data frame there and back, and there again.
 use crate::draw::bits_from;
 use crate::part::read_part;
+use crate::part::same_labels;
 use crate::part::same_part;
 use crate::part::write_part;
 use coder::Coded;
@@ -52,8 +53,18 @@ pub struct Round {
     pub state: State,
 }
 
+// Whether the bits, written from the state, give the labels.
+fn written_again(st: State, bits: &[u8], n: usize, m: usize, labels: &[u16]) -> bool {
+    let mut again = [0u16; 256];
+    let written = write_part(st, bits, n, &mut again, m);
+    if written.refusal != 0 {
+        return false;
+    }
+    same_labels(&again, labels, m)
+}
+
 // A data frame of n bits and m labels from a state: what is read back is what was written, with the same number of bits and the same next
-// state.
+// state, and written again it gives the same labels.
 pub fn round_from(st: State, n: usize, m: usize, seed: u64) -> Round {
     let bits = bits_from(seed);
     let mut labels = [0u16; 256];
@@ -63,8 +74,9 @@ pub fn round_from(st: State, n: usize, m: usize, seed: u64) -> Round {
     let next = written.state;
     let same = same_answer(written, read, n as u64);
     let held = same_part(&bits, &back, n);
+    let again = written_again(st, &back, n, m, &labels);
     Round {
-        agrees: same & held,
+        agrees: same & held & again,
         state: next,
     }
 }
