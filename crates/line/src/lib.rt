@@ -16,6 +16,7 @@ pub use settings::Shaping;
 pub use settings::Worked;
 pub use settings::refusal_of;
 pub use settings::rings_of_shaping;
+pub use settings::values_of;
 pub use settings::work_out;
 pub use switching::Turn;
 pub use switching::next_frame;

@@ -1,7 +1,8 @@
 // The settings of a line, worked out or refused (document 01, "Settings" and "What comes back").
 ghost use mathlib.Core.Path.{_≡_};
 ghost use Prim.Native.Nat.{_<_};
-ghost use Rattle.line.specs.Settings.{unstated, denied, settingsRefusal, shapingOf, ringsOfShaping, settingsOf, workedOf, numberOf, InRange};
+ghost use Rattle.line.specs.Settings.{unstated, denied, settingsRefusal, shapingOf, ringsOfShaping, settingsOf, workedOf, numberOf, valuesOf, InRange};
+ghost use Rattle.line.specs.declared.settings.Worked.the-variants.{Accepted};
 use crate::numbers::bits_of;
 use crate::numbers::high_of;
 use crate::numbers::points_of;
@@ -56,6 +57,24 @@ pub fn rings_of_shaping(shaping: Shaping) -> u64
         Shaping::Minimum(m) => m,
         Shaping::Expanded(m) => m,
     }
+}
+
+// N P b r K q M L of a checked set of settings.
+pub fn values_of(c: Settings) -> [u64; 8]
+    ensures { λ r. ⌜ r ≡ valuesOf (Accepted c) ⌝ }
+{
+    let shaping = c.shaping;
+    let rings = rings_of_shaping(shaping);
+    [
+        c.bits,
+        c.frames,
+        c.high,
+        c.step,
+        c.shell,
+        c.uncoded,
+        rings,
+        c.points,
+    ]
 }
 
 // The shaping that the number names, of K bits.

@@ -4,7 +4,6 @@ ghost use Prim.Native.Nat.{_≤_, _<_};
 ghost use lib.ListN.{length};
 ghost use Rattle.laws.specs.Put.{Put};
 ghost use Rattle.line.specs.declared.settings.Worked.the-variants.{Accepted, Refused};
-ghost use Rattle.line.specs.Settings.{valuesOf};
 ghost use Rattle.settings.specs.Lines.{answerOf, textOf, lineOf, Answers};
 use crate::text::put_byte;
 use crate::text::put_bytes;
@@ -19,30 +18,12 @@ fn wide(byte: u8) -> u64
     byte as u64
 }
 
-// N P b r K q M L.
-fn values_of(c: Settings) -> [u64; 8]
-    ensures { λ r. ⌜ r ≡ valuesOf (Accepted c) ⌝ }
-{
-    let shaping = c.shaping;
-    let rings = line::rings_of_shaping(shaping);
-    [
-        c.bits,
-        c.frames,
-        c.high,
-        c.step,
-        c.shell,
-        c.uncoded,
-        rings,
-        c.points,
-    ]
-}
-
 // The eight values.
 fn put_values(line: &mut [u8], c: Settings) -> usize
     requires { ⌜ length (textOf (Accepted c)) ≤ length (now line) ⌝ }
     ensures { λ r. ⌜ Put (textOf (Accepted c)) (now (line .entry)) (now (line .exit)) 0 r ⌝ }
 {
-    let values = values_of(c);
+    let values = line::values_of(c);
     put_joined(line, &values)
 }
 

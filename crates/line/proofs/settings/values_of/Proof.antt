@@ -1,7 +1,7 @@
--- `settings::answer::values_of` meets its contract. Assumes nothing.
+-- `line::settings::values_of` meets its contract. Assumes nothing.
 use borrow.Author.Needs.{needs}
-use Rattle.settings.proofs.answer.values_of.Statement.{statement}
-use Rattle.settings.proofs.answer.values_of.Tie as tie
+use Rattle.line.proofs.settings.values_of.Statement.{statement}
+use Rattle.line.proofs.settings.values_of.Tie as tie
 
 rings-of-shaping-requires : tie.Need-rings-of-shaping-requires
 rings-of-shaping-requires c κs = search needs
