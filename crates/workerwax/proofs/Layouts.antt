@@ -1,0 +1,204 @@
+-- Numbers and labels put into bytes one after the other, and labels taken out of bytes: what each store adds to what is done, and that
+-- what is done and what is left make the whole. Assumes nothing.
+use mathlib.Core.List.{List, [], _∷_, _++_, append-assoc, append-nil}
+use mathlib.Core.Path.{_≡_, refl, sym, ap, _∙_}
+use Prim.Native.Nat.{ℕ, suc, _+_, _*_, _/_, _%_, _≤_, _<_}
+use native.Mathlib.Numerals.{add-one}
+use native.Mathlib.Omega.{arith}
+use lib.ListN.{length, take, drop, getD, set, length-append, length-set, take-append-drop, drop-of-length-le}
+use lib.Seq.{take-suc, take-suc-set, drop-cons, take-all, length-take-le}
+use Rattle.laws.specs.Put.{Put}
+use Rattle.laws.proofs.Puts.{put-one, put-more, put-front}
+use Rattle.workerwax.specs.Layout.{word, words, labelBytes, labelsIn}
+
+-- One number: four stores.
+stored : {b : List ℕ} {k x m : ℕ} → k < length b → m ≡ k + 1 → Put (x ∷ []) b (set b k x) k m
+stored h e = record { buffer = put-one h .buffer; place = e }
+
+module _ (l : List ℕ) (at n : ℕ) (room : at + 4 ≤ length l) where
+  abbrev pub one : List ℕ
+  one = set l at (n % 256)
+
+  abbrev pub two : List ℕ
+  two = set one (at + 1) (n / 256 % 256)
+
+  abbrev pub three : List ℕ
+  three = set two (at + 2) (n / 65536 % 256)
+
+  abbrev pub four : List ℕ
+  four = set three (at + 3) (n / 16777216 % 256)
+
+  pub length-one : length one ≡ length l
+  length-one = length-set l at (n % 256)
+
+  pub length-two : length two ≡ length l
+  length-two = length-set one (at + 1) (n / 256 % 256) ∙ length-one
+
+  pub length-three : length three ≡ length l
+  length-three = length-set two (at + 2) (n / 65536 % 256) ∙ length-two
+
+  pub word-put : Put (word n) l four at (at + 4)
+  unfolding word
+  word-put =
+      put-more (omega arith)
+      (put-more (omega arith)
+      (put-more (omega arith) (stored (omega arith) refl) (stored (omega (arith, length-one)) (omega arith)))
+      (stored (omega (arith, length-two)) (omega arith)))
+      (stored (omega (arith, length-three)) (omega arith))
+
+-- Numbers, one after the other.
+pub length-word : (n : ℕ) → length (word n) ≡ 4
+unfolding word
+length-word n = refl
+
+pub words-none : words [] ≡ []
+unfolding words
+words-none = refl
+
+words-append : (ms ns : List ℕ) → words (ms ++ ns) ≡ words ms ++ words ns
+unfolding words
+words-append [] ns = refl
+words-append (m ∷ ms) ns = ap (λ (l : List ℕ). word m ++ l) (words-append ms ns) ∙ sym (append-assoc (word m) (words ms) (words ns))
+
+words-one : (n : ℕ) → words (n ∷ []) ≡ word n
+unfolding words
+words-one n = append-nil (word n)
+
+pub length-words : (ns : List ℕ) → length (words ns) ≡ 4 * length ns
+unfolding words
+length-words [] = refl
+length-words (n ∷ ns) = omega (arith, length-append (word n) (words ns), length-word n, length-words ns)
+
+pub words-more : (ns : List ℕ) (i : ℕ) → i < length ns → words (take (i + 1) ns) ≡ words (take i ns) ++ word (getD ns i 0)
+words-more ns i h =
+    ap words (rw add-one (take-suc ns i 0 h))
+    ∙ (words-append (take i ns) (getD ns i 0 ∷ []) ∙ ap (λ (l : List ℕ). words (take i ns) ++ l) (words-one (getD ns i 0)))
+
+-- a slice that has just their bytes holds nothing else
+pub words-whole : (ns before after : List ℕ) (k : ℕ) → length before ≡ 4 * length ns → Put (words ns) before after 0 k → after ≡ words ns
+words-whole ns before after k size p =
+    let short : length before ≤ length (words ns) = omega (arith, length-words ns) in
+    put-front p ∙ (ap (λ (l : List ℕ). words ns ++ l) (drop-of-length-le before short) ∙ append-nil (words ns))
+
+-- one number, into four bytes
+pub word-whole : (n : ℕ) (before after : List ℕ) (k : ℕ) → length before ≡ 4 → Put (word n) before after 0 k → after ≡ word n
+word-whole n before after k size p =
+    let short : length before ≤ length (word n) = omega (arith, length-word n) in
+    put-front p ∙ (ap (λ (l : List ℕ). word n ++ l) (drop-of-length-le before short) ∙ append-nil (word n))
+
+-- a store leaves every place where it was
+pub still-inside : (l : List ℕ) (at x place : ℕ) → place < length l → place < length (set l at x)
+still-inside l at x place h = omega (arith, h, length-set l at x)
+
+-- Labels into bytes: i labels are done, and what is left makes the whole.
+pub record Laid (labels out : List ℕ) (i : ℕ) : Type 0 where
+  pub upTo : i ≤ length labels
+  pub size : length out ≡ 2 * length labels
+  pub made : take (2 * i) out ++ labelBytes (drop i labels) ≡ labelBytes labels
+
+pub laid-none : (labels out : List ℕ) → length out ≡ 2 * length labels → Laid labels out 0
+laid-none labels out size = record { upTo = omega arith; size = size; made = refl }
+
+module _ (labels out : List ℕ) (i : ℕ) (l : Laid labels out i) (more : i < length labels) where
+  abbrev label : ℕ
+  label = getD labels i 0
+
+  abbrev pub low : List ℕ
+  low = set out (2 * i) (label % 256)
+
+  -- two stores
+  abbrev pub both : List ℕ
+  both = set low (2 * i + 1) (label / 256 % 256)
+
+  length-low : length low ≡ length out
+  length-low = length-set out (2 * i) (label % 256)
+
+  length-both : length both ≡ length out
+  length-both = length-set low (2 * i + 1) (label / 256 % 256) ∙ length-low
+
+  first : take (2 * i + 1) low ≡ take (2 * i) out ++ label % 256 ∷ []
+  first =
+      let place : 2 * i + 1 ≡ suc (2 * i) = omega arith in
+      rw place (take-suc-set out (2 * i) (label % 256) (omega (arith, l .size)))
+
+  second : take (2 * (i + 1)) both ≡ take (2 * i + 1) low ++ label / 256 % 256 ∷ []
+  second =
+      let place : 2 * (i + 1) ≡ suc (2 * i + 1) = omega arith in
+      rw place (take-suc-set low (2 * i + 1) (label / 256 % 256) (omega (arith, l .size, length-low)))
+
+  rest : labelBytes (drop i labels) ≡ label % 256 ∷ label / 256 % 256 ∷ labelBytes (drop (i + 1) labels)
+  unfolding labelBytes
+  rest = let off : drop i labels ≡ label ∷ drop (i + 1) labels = rw add-one (drop-cons labels i 0 more) in ap labelBytes off
+
+  regroup :
+      ((take (2 * i) out ++ label % 256 ∷ []) ++ label / 256 % 256 ∷ []) ++ labelBytes (drop (i + 1) labels)
+      ≡ take (2 * i) out ++ label % 256 ∷ label / 256 % 256 ∷ labelBytes (drop (i + 1) labels)
+  regroup =
+      append-assoc (take (2 * i) out ++ label % 256 ∷ []) (label / 256 % 256 ∷ []) (labelBytes (drop (i + 1) labels))
+      ∙ append-assoc (take (2 * i) out) (label % 256 ∷ []) (label / 256 % 256 ∷ labelBytes (drop (i + 1) labels))
+
+  pub laid-more : Laid labels both (i + 1)
+  laid-more =
+      record {
+        upTo = omega arith;
+        size = length-both ∙ l .size;
+        made =
+            ap (λ (t : List ℕ). t ++ labelBytes (drop (i + 1) labels)) (second ∙ ap (λ (t : List ℕ). t ++ label / 256 % 256 ∷ []) first)
+            ∙ (regroup ∙ (ap (λ (t : List ℕ). take (2 * i) out ++ t) (sym rest) ∙ l .made));
+      }
+
+pub laid-all : (labels out : List ℕ) (i : ℕ) → Laid labels out i → length labels ≤ i → out ≡ labelBytes labels
+unfolding labelBytes
+laid-all labels out i l all =
+    let none : drop i labels ≡ [] = drop-of-length-le labels all in
+    sym (take-all (2 * i) out (omega (arith, l .size)))
+    ∙ (sym (append-nil (take (2 * i) out)) ∙ (ap (λ (t : List ℕ). take (2 * i) out ++ labelBytes t) (sym none) ∙ l .made))
+
+-- Labels out of bytes.
+pub record Taken (bytes labels : List ℕ) (i : ℕ) : Type 0 where
+  pub upTo : i ≤ length labels
+  pub size : length bytes ≡ 2 * length labels
+  pub made : take i labels ++ labelsIn (drop (2 * i) bytes) ≡ labelsIn bytes
+
+pub taken-none : (bytes labels : List ℕ) → length bytes ≡ 2 * length labels → Taken bytes labels 0
+taken-none bytes labels size = record { upTo = omega arith; size = size; made = refl }
+
+module _ (bytes labels : List ℕ) (i : ℕ) (t : Taken bytes labels i) (more : i < length labels) where
+  abbrev lowest : ℕ
+  lowest = getD bytes (2 * i) 0
+
+  abbrev highest : ℕ
+  highest = getD bytes (2 * i + 1) 0
+
+  two-off : drop (2 * i) bytes ≡ lowest ∷ highest ∷ drop (2 * (i + 1)) bytes
+  two-off =
+      let place : 2 * i + 1 ≡ suc (2 * i) = omega arith in
+      let places : 2 * (i + 1) ≡ suc (2 * i + 1) = omega arith in
+      drop-cons bytes (2 * i) 0 (omega (arith, t .size))
+      ∙ ap (λ (l : List ℕ). lowest ∷ l) (ap (λ (k : ℕ). drop k bytes) (sym place)
+      ∙ (drop-cons bytes (2 * i + 1) 0 (omega (arith, t .size)) ∙ ap (λ (k : ℕ). highest ∷ drop k bytes) (sym places)))
+
+  next : labelsIn (drop (2 * i) bytes) ≡ (lowest + 256 * highest) ∷ labelsIn (drop (2 * (i + 1)) bytes)
+  unfolding labelsIn
+  next = ap labelsIn two-off
+
+  pub taken-more : Taken bytes (set labels i (lowest + 256 * highest)) (i + 1)
+  taken-more =
+      let value = lowest + 256 * highest in
+      let stores : take (i + 1) (set labels i value) ≡ take i labels ++ value ∷ [] = rw add-one (take-suc-set labels i value more) in
+      record {
+        upTo = omega (arith, length-set labels i value);
+        size = t .size ∙ omega (arith, length-set labels i value);
+        made =
+            ap (λ (l : List ℕ). l ++ labelsIn (drop (2 * (i + 1)) bytes)) stores
+            ∙ (append-assoc (take i labels) (value ∷ []) (labelsIn (drop (2 * (i + 1)) bytes))
+            ∙ (ap (λ (l : List ℕ). take i labels ++ l) (sym next) ∙ t .made));
+      }
+
+pub taken-all : (bytes labels : List ℕ) (i : ℕ) → Taken bytes labels i → length labels ≤ i → labels ≡ labelsIn bytes
+unfolding labelsIn
+taken-all bytes labels i t all =
+    let short : length bytes ≤ 2 * i = omega (arith, t .size) in
+    let none : drop (2 * i) bytes ≡ [] = drop-of-length-le bytes short in
+    sym (take-all i labels all)
+    ∙ (sym (append-nil (take i labels)) ∙ (ap (λ (l : List ℕ). take i labels ++ labelsIn l) (sym none) ∙ t .made))

@@ -1,0 +1,24 @@
+-- What is proved of the calls for C.
+--     Outcomes     at most one outcome fits each contract
+--     Unstated     an unstated mark is never taken as permission
+--     Back         ww_write and ww_read undo each other
+--     Places       ww_map and ww_rank undo each other, and a set numbered 2^K or above is refused
+--     Answers      what the words of an answer say, and when ww_write answers 0
+--     Undone       bytes there and back, and worked layouts
+-- and what the proofs of several functions share,
+--     Layouts      numbers and labels put and taken one after the other
+--     Lends        how many labels the coder is lent
+--     Refusals     no refusal number is above 14
+--     Ways         the settings, the starts and the ranker by their ways out
+--     Frames       the writer and the reader by their ways out
+pub mod Outcomes
+pub mod Unstated
+pub mod Back
+pub mod Places
+pub mod Answers
+pub mod Undone
+pub mod Layouts
+pub mod Lends
+pub mod Refusals
+pub mod Ways
+pub mod Frames

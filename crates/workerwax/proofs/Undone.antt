@@ -1,0 +1,107 @@
+-- Bytes there and back: numbers below 2^32 and labels below 2^16 are read back as they were laid out, and bytes that are taken as labels are
+-- laid out again as they were. Assumes nothing.
+use mathlib.Core.Bool.{true, _&&_}
+use mathlib.Core.List.{List, [], _∷_, _++_}
+use mathlib.Core.Path.{_≡_, refl, sym, ap, ap₂, _∙_}
+use Prim.Native.Nat.{ℕ, zero, suc, _+_, _*_, _/_, _%_, _^_, _≤_, _<_}
+use native.Mathlib.Nat.{mod-eq-of-lt, add-mul-mod-self-left, div-div-eq-div-mul}
+use native.Mathlib.Omega.{arith}
+use lib.Dec.{leb, ltb}
+use lib.ListN.{length}
+use borrow.Author.Tests.{leb-true, ltb-true}
+use Rattle.laws.specs.Lists.{Every}
+use Rattle.laws.proofs.Bools.{and-parts}
+use Rattle.frame.specs.Reading.{inRange}
+use Rattle.workerwax.specs.Layout.{word, words, numbersIn, labelBytes, labelsIn}
+
+-- Numbers.
+abbrev pub Short : ℕ → Type 0
+Short n = n < 4294967296
+
+-- a number is what its four bytes say
+bytes-of : (n : ℕ) → Short n → n % 256 + 256 * (n / 256 % 256) + 65536 * (n / 65536 % 256) + 16777216 * (n / 16777216 % 256) ≡ n
+bytes-of n h =
+    let q = n / 256 in
+    let r = n / 65536 in
+    let t = n / 16777216 in
+    let tops : t % 256 ≡ t = omega (arith, h) in
+    let thirds : r % 256 + 256 * t ≡ r = omega (arith, div-div-eq-div-mul n 65536 256) in
+    let seconds : q % 256 + 256 * r ≡ q = omega (arith, div-div-eq-div-mul n 256 256) in
+    let firsts : n % 256 + 256 * q ≡ n = omega arith in
+    omega (arith, tops, thirds, seconds, firsts)
+
+pub numbers-back : (ns : List ℕ) → Every Short ns → numbersIn (words ns) ≡ ns
+unfolding words word numbersIn
+numbers-back [] h = refl
+numbers-back (n ∷ ns) h = ap₂ (λ (x : ℕ) (xs : List ℕ). x ∷ xs) (bytes-of n (h .0)) (numbers-back ns (h .1))
+
+pub number-back : (n : ℕ) → Short n → numbersIn (word n) ≡ n ∷ []
+unfolding word numbersIn
+number-back n h = ap (λ (x : ℕ). x ∷ []) (bytes-of n h)
+
+-- Labels.
+abbrev pub Small : ℕ → Type 0
+Small label = label < 65536
+
+abbrev pub Byte : ℕ → Type 0
+Byte b = b < 256
+
+pub labels-back : (labels : List ℕ) → Every Small labels → labelsIn (labelBytes labels) ≡ labels
+unfolding labelBytes labelsIn
+labels-back [] h = refl
+labels-back (label ∷ labels) h =
+    let both : label % 256 + 256 * (label / 256 % 256) ≡ label = omega (arith, h .0) in
+    ap₂ (λ (x : ℕ) (xs : List ℕ). x ∷ xs) both (labels-back labels (h .1))
+
+-- the two bytes of a label that was taken from two bytes
+first-byte : (a b : ℕ) → Byte a → (a + 256 * b) % 256 ≡ a
+first-byte a b h = add-mul-mod-self-left a 256 b ∙ mod-eq-of-lt h
+
+second-byte : (a b : ℕ) → Byte a → Byte b → (a + 256 * b) / 256 % 256 ≡ b
+second-byte a b h k =
+    let whole : (a + 256 * b) / 256 ≡ b = omega (arith, h) in
+    ap (λ (n : ℕ). n % 256) whole ∙ mod-eq-of-lt k
+
+pub bytes-back : (k : ℕ) (bytes : List ℕ) → length bytes ≡ 2 * k → Every Byte bytes → labelBytes (labelsIn bytes) ≡ bytes
+unfolding labelBytes labelsIn
+bytes-back zero [] e h = refl
+bytes-back zero (a ∷ bytes) e h = absurd (omega arith)
+bytes-back (suc k) [] e h = absurd (omega arith)
+bytes-back (suc k) (a ∷ []) e h = absurd (omega arith)
+bytes-back (suc k) (a ∷ b ∷ bytes) e h =
+    let low = first-byte a b (h .0) in
+    let high = second-byte a b (h .0) (h .1 .0) in
+    ap₂ (λ (x : ℕ) (xs : List ℕ). x ∷ xs) low (ap₂ (λ (x : ℕ) (xs : List ℕ). x ∷ xs) high (bytes-back k bytes (omega arith) (h .1 .1)))
+
+pub length-bytes : (labels : List ℕ) → length (labelBytes labels) ≡ 2 * length labels
+unfolding labelBytes
+length-bytes [] = refl
+length-bytes (label ∷ labels) = omega (arith, length-bytes labels)
+
+-- labels that are in their ranges are below 2^16
+pub ranges-small :
+    (M q k : ℕ) (labels : List ℕ) → M * 2 ^ q ≤ 65536 → length labels ≡ 4 * k → inRange M q k labels ≡ true → Every Small labels
+unfolding inRange
+ranges-small M q zero [] top e h = tt
+ranges-small M q zero (a ∷ labels) top e h = absurd (omega arith)
+ranges-small M q (suc k) [] top e h = absurd (omega arith)
+ranges-small M q (suc k) (a ∷ []) top e h = absurd (omega arith)
+ranges-small M q (suc k) (a ∷ b ∷ []) top e h = absurd (omega arith)
+ranges-small M q (suc k) (a ∷ b ∷ z ∷ []) top e h = absurd (omega arith)
+ranges-small M q (suc k) (a ∷ b ∷ z ∷ i ∷ labels) top e h =
+    let four = and-parts (ltb a (M * 2 ^ q) && (ltb b (M * 2 ^ q) && (leb z 3 && leb i 1))) (inRange M q k labels) h in
+    let first = and-parts (ltb a (M * 2 ^ q)) (ltb b (M * 2 ^ q) && (leb z 3 && leb i 1)) (four .0) in
+    let second = and-parts (ltb b (M * 2 ^ q)) (leb z 3 && leb i 1) (first .1) in
+    let third = and-parts (leb z 3) (leb i 1) (second .1) in
+    let one = ltb-true a (M * 2 ^ q) (first .0) in
+    let two = ltb-true b (M * 2 ^ q) (second .0) in
+    let three = leb-true z 3 (third .0) in
+    let last = leb-true i 1 (third .1) in
+    (omega (arith, one), (omega (arith, two), (omega (arith, three), (omega (arith, last), ranges-small M q k labels top (omega arith) (four .1)))))
+
+-- The worked layouts of specs/Layout.
+pub worked-layouts :
+    (words (1176 ∷ 15 ∷ []) ≡ 152 ∷ 4 ∷ 0 ∷ 0 ∷ 15 ∷ 0 ∷ 0 ∷ 0 ∷ []) × (labelBytes (415 ∷ 3 ∷ []) ≡ 159 ∷ 1 ∷ 3 ∷ 0 ∷ [])
+    × (labelsIn (159 ∷ 1 ∷ 3 ∷ 0 ∷ []) ≡ 415 ∷ 3 ∷ [])
+unfolding word words labelBytes labelsIn
+worked-layouts = (refl, refl, refl)

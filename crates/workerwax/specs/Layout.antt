@@ -1,0 +1,35 @@
+-- Numbers and labels as bytes, lowest first.
+--
+--     a number of an answer     four bytes     1176     152, 4, 0, 0
+--     a label                   two bytes      415      159, 1
+--
+-- A list of numbers or labels is laid out one after the other, in its order, with nothing between.
+use mathlib.Core.List.{List, [], _∷_, _++_}
+use Prim.Native.Nat.{ℕ, _+_, _*_, _/_, _%_}
+
+-- a number as four bytes
+unfoldable pub word : ℕ → List ℕ
+word n = n % 256 ∷ n / 256 % 256 ∷ n / 65536 % 256 ∷ n / 16777216 % 256 ∷ []
+
+unfoldable pub words : List ℕ → List ℕ
+words [] = []
+words (n ∷ numbers) = word n ++ words numbers
+
+-- the numbers that bytes hold, four by four; what is left over at the end holds none
+unfoldable pub numbersIn : List ℕ → List ℕ
+numbersIn [] = []
+numbersIn (a ∷ []) = []
+numbersIn (a ∷ b ∷ []) = []
+numbersIn (a ∷ b ∷ c ∷ []) = []
+numbersIn (a ∷ b ∷ c ∷ d ∷ bytes) = (a + 256 * b + 65536 * c + 16777216 * d) ∷ numbersIn bytes
+
+-- labels as bytes, two for each
+unfoldable pub labelBytes : List ℕ → List ℕ
+labelBytes [] = []
+labelBytes (label ∷ labels) = label % 256 ∷ label / 256 % 256 ∷ labelBytes labels
+
+-- the labels that bytes hold, two by two; a byte that is left over holds none
+unfoldable pub labelsIn : List ℕ → List ℕ
+labelsIn [] = []
+labelsIn (low ∷ []) = []
+labelsIn (low ∷ high ∷ bytes) = (low + 256 * high) ∷ labelsIn bytes
