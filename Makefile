@@ -1,6 +1,7 @@
 # Workerwax. README.md says what the two commands do.
 #
-#     make run     the main job: proves and runs the programs `cases` and `settings`, and shows what they print
+#     make run     the main job: proves the library for C and runs the program of README.md over it, on a shunt plan; also proves
+#                  and runs the programs `cases` and `settings`
 #     make test    the whole test, which is the gate: tools/test has its steps
 #
 # Started from another folder, `make -C` prints a line of its own behind the last one. --no-print-directory leaves it out.
@@ -9,10 +10,14 @@
 
 run: setup
 	@rt check cases settings
+	@tools/build-host example
+	@printf '\nworked cases\n'
 	@tools/run-program target/bin/cases </dev/null
 	@printf '\nsettings program, role 0, s 5, n 14, shaping 1, mark 1 and then mark 2\n'
 	@printf '\000\005\016\001\001' | tools/run-program target/bin/settings
 	@printf '\000\005\016\001\002' | tools/run-program target/bin/settings
+	@printf '\nhost/example.c sends host/shunt-plan.txt\n'
+	@tools/run-program target/host/example <host/shunt-plan.txt
 
 test: setup
 	@tools/test

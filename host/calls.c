@@ -1,0 +1,261 @@
+/* calls.c: see calls.h. */
+#define _DEFAULT_SOURCE
+#include "calls.h"
+
+#include <inttypes.h>
+#include <signal.h>
+#include <stdio.h>
+#include <stdlib.h>
+#include <string.h>
+#include <unistd.h>
+
+#include "lent.h"
+#include "second.h"
+#include "workerwax.h"
+
+enum { LIBRARY, SECOND, PROGRAMS };
+
+/* What an entry takes, and which numbers may come back from it: bit i for the number i. */
+struct shape {
+    const char *name;
+    size_t numbers, slices, read_only; /* the first `read_only` slices are lent for reading alone */
+    uint32_t may_come;
+};
+
+#define SETTINGS_NUMBERS (1u << 1 | 1u << 2 | 1u << 3 | 1u << 5 | 1u << 6)
+
+static const struct shape shapes[ENTRIES] = {
+    {"parameters", 5, 1, 0, 1u | SETTINGS_NUMBERS | 1u << 4 | 1u << 8},
+    {"map", 3, 1, 0, 1u | 1u << 13 | 1u << 8 | 1u << 14},
+    {"rank", 2, 2, 1, 1u | 1u << 13 | 1u << 8 | 1u << 10 | 1u << 11},
+    {"start", 7, 1, 0, 1u | SETTINGS_NUMBERS | 1u << 4 | 1u << 7 | 1u << 8},
+    {"short_start", 4, 1, 0, 1u | SETTINGS_NUMBERS | 1u << 8},
+    {"write", 7, 3, 1, 1u | SETTINGS_NUMBERS | 1u << 4 | 1u << 7 | 1u << 8 | 1u << 9},
+    {"read", 7, 3, 1, 1u | SETTINGS_NUMBERS | 1u << 4 | 1u << 7 | 1u << 8 | 1u << 10 | 1u << 11 | 1u << 12},
+};
+
+static struct lent lent[PROGRAMS][MOST_SLICES];
+static uint64_t came_back[ENTRIES][15];
+static uint64_t calls_made;
+
+/* What is being called, for whoever has to report it. */
+static struct call current;
+static int current_program;
+
+static void print_bytes(const uint8_t *bytes, size_t length)
+{
+    size_t i;
+    for (i = 0; i < length; i++) {
+        fprintf(stderr, " %u", bytes[i]);
+    }
+    fprintf(stderr, "\n");
+}
+
+static void print_call(const struct call *call)
+{
+    const struct shape *shape = &shapes[call->entry];
+    size_t i;
+    fprintf(stderr, "compare: the call was %s of", shape->name);
+    for (i = 0; i < shape->numbers; i++) {
+        fprintf(stderr, " %" PRIu64, call->number[i]);
+    }
+    fprintf(stderr, "\n");
+    for (i = 0; i < shape->slices; i++) {
+        const struct slice *slice = &call->slice[i];
+        fprintf(stderr, "  slice %zu: length stated %zu, bytes there %zu:", i, slice->stated, slice->there);
+        if (slice->content == NULL) {
+            fprintf(stderr, " canaries\n");
+        } else {
+            print_bytes(slice->content, slice->there);
+        }
+    }
+}
+
+static void fail(const char *why)
+{
+    fprintf(stderr, "compare: %s\n", why);
+    print_call(&current);
+    exit(1);
+}
+
+/* Printing from a handler is not safe in general. Here the call that faulted prints nothing, and the program ends. */
+static void on_fault(int signal_number)
+{
+    fprintf(stderr, "compare: %s %s\n", current_program == LIBRARY ? "the library" : "the second program",
+            signal_number == SIGILL ? "ran into a trap, as on undefined behaviour" : "touched memory that was not lent to it");
+    print_call(&current);
+    fflush(stdout);
+    _exit(1);
+}
+
+void calls_open(void)
+{
+    int program;
+    size_t i;
+    for (program = 0; program < PROGRAMS; program++) {
+        for (i = 0; i < MOST_SLICES; i++) {
+            lent_open(&lent[program][i]);
+        }
+    }
+    if (!lent_guards_hold(&lent[LIBRARY][0])) {
+        fprintf(stderr, "compare: the pages around a buffer can be touched, so no step out of it would be seen\n");
+        exit(1);
+    }
+    second_init();
+    signal(SIGSEGV, on_fault);
+    signal(SIGBUS, on_fault);
+    signal(SIGILL, on_fault);
+}
+
+struct slice slice_of(const uint8_t *content, size_t length)
+{
+    const struct slice slice = {content, length, length};
+    return slice;
+}
+
+struct slice room(size_t length)
+{
+    return slice_of(NULL, length);
+}
+
+/* A slice as it is handed over. One of no bytes may be null, and in one of the placements it is. */
+#define HANDED(i) (call->slice[i].stated == 0 && placement == AT_START ? NULL : b[i].bytes), call->slice[i].stated
+
+static uint32_t call_library(const struct call *call, const struct lent *b, enum placement placement)
+{
+    const uint64_t *x = call->number;
+    switch (call->entry) {
+    case PARAMETERS: return ww_parameters(x[0], x[1], x[2], x[3], x[4], HANDED(0));
+    case MAP: return ww_map(x[0], x[1], x[2], HANDED(0));
+    case RANK: return ww_rank(x[0], x[1], HANDED(0), HANDED(1));
+    case START: return ww_start(x[0], x[1], x[2], x[3], x[4], x[5], x[6], HANDED(0));
+    case SHORT_START: return ww_short_start(x[0], x[1], x[2], x[3], HANDED(0));
+    case WRITE: return ww_write(x[0], x[1], x[2], x[3], x[4], x[5], x[6], HANDED(0), HANDED(1), HANDED(2));
+    case READ: return ww_read(x[0], x[1], x[2], x[3], x[4], x[5], x[6], HANDED(0), HANDED(1), HANDED(2));
+    default: abort();
+    }
+}
+
+static uint32_t call_second(const struct call *call, const struct lent *b, enum placement placement)
+{
+    const uint64_t *x = call->number;
+    switch (call->entry) {
+    case PARAMETERS: return second_parameters(x[0], x[1], x[2], x[3], x[4], HANDED(0));
+    case MAP: return second_map(x[0], x[1], x[2], HANDED(0));
+    case RANK: return second_rank(x[0], x[1], HANDED(0), HANDED(1));
+    case START: return second_start(x[0], x[1], x[2], x[3], x[4], x[5], x[6], HANDED(0));
+    case SHORT_START: return second_short_start(x[0], x[1], x[2], x[3], HANDED(0));
+    case WRITE: return second_write(x[0], x[1], x[2], x[3], x[4], x[5], x[6], HANDED(0), HANDED(1), HANDED(2));
+    case READ: return second_read(x[0], x[1], x[2], x[3], x[4], x[5], x[6], HANDED(0), HANDED(1), HANDED(2));
+    default: abort();
+    }
+}
+
+/* What one program may have done to what was lent to it. */
+static void check_lent(const struct call *call, int program, uint32_t number)
+{
+    const struct shape *shape = &shapes[call->entry];
+    size_t i;
+    for (i = 0; i < shape->slices; i++) {
+        const struct lent *one = &lent[program][i];
+        if (number != WW_DONE && !lent_is_untouched(one)) {
+            fail(program == LIBRARY ? "the library refused and changed a lent slice"
+                                    : "the second program refused and changed a lent slice");
+        }
+        if (!lent_is_surrounded(one) || (i < shape->read_only && !lent_is_untouched(one))) {
+            fail(program == LIBRARY ? "the library wrote where nothing was lent for writing"
+                                    : "the second program wrote where nothing was lent for writing");
+        }
+    }
+}
+
+/* Both programs have the same in every slice, and in what lies around it. */
+static void check_same(const struct shape *shape)
+{
+    size_t i;
+    for (i = 0; i < shape->slices; i++) {
+        const struct lent *library = &lent[LIBRARY][i], *second = &lent[SECOND][i];
+        if (memcmp(library->page, second->page, lent_page_size()) != 0) {
+            fprintf(stderr, "compare: slice %zu, the library:", i);
+            print_bytes(library->bytes, library->length);
+            fprintf(stderr, "compare: slice %zu, the second program:", i);
+            print_bytes(second->bytes, second->length);
+            fail("they disagree on the contents of a slice");
+        }
+    }
+}
+
+/* Both programs in one placement. */
+static uint32_t compare_placed(const struct call *call, enum placement placement)
+{
+    const struct shape *shape = &shapes[call->entry];
+    uint8_t canary = (uint8_t)(89 * calls_made++);
+    uint32_t number[PROGRAMS];
+    size_t i;
+    for (current_program = 0; current_program < PROGRAMS; current_program++) {
+        struct lent *b = lent[current_program];
+        for (i = 0; i < shape->slices; i++) {
+            lent_set(&b[i], placement, call->slice[i].content, call->slice[i].there, canary);
+        }
+        number[current_program] =
+            current_program == LIBRARY ? call_library(call, b, placement) : call_second(call, b, placement);
+        check_lent(call, current_program, number[current_program]);
+    }
+    if (number[LIBRARY] != number[SECOND]) {
+        fprintf(stderr, "compare: the library gives %" PRIu32 ", the second program %" PRIu32 "\n", number[LIBRARY],
+                number[SECOND]);
+        fail("they disagree on the number");
+    }
+    check_same(shape);
+    return number[LIBRARY];
+}
+
+uint32_t compare(struct tally *tally, const struct call *call, uint32_t expected)
+{
+    uint32_t number;
+    current = *call;
+    number = compare_placed(call, AT_END);
+    if (compare_placed(call, AT_START) != number) {
+        fail("the number depends on where the buffers are");
+    }
+    if (number > 14 || (shapes[call->entry].may_come >> number & 1) == 0) {
+        fprintf(stderr, "compare: %" PRIu32 "\n", number);
+        fail("a number that this entry never gives");
+    }
+    if (expected != NOT_KNOWN && number != expected) {
+        fprintf(stderr, "compare: %" PRIu32 " where %" PRIu32 " is due\n", number, expected);
+        fail("both give a number that is not the one due");
+    }
+    came_back[call->entry][number]++;
+    tally->made++;
+    return number;
+}
+
+const uint8_t *compared(size_t slice)
+{
+    return lent[LIBRARY][slice].bytes;
+}
+
+void demand(int fact, const char *what)
+{
+    if (!fact) {
+        fail(what);
+    }
+}
+
+int calls_all_met(void)
+{
+    int all = 1;
+    size_t entry, number;
+    for (entry = 0; entry < ENTRIES; entry++) {
+        printf("  %-12s", shapes[entry].name);
+        for (number = 0; number < 15; number++) {
+            if ((shapes[entry].may_come >> number & 1) != 0) {
+                printf(" %zu:%" PRIu64, number, came_back[entry][number]);
+                all = all && came_back[entry][number] != 0;
+            }
+        }
+        printf("\n");
+    }
+    return all;
+}

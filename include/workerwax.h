@@ -1,0 +1,229 @@
+/*
+ * workerwax.h: the data side of an ITU-T V.34 (02/98) modem, for a host program in C or C++.
+ *
+ * What does it do?
+ *
+ * User bits go in, one data frame at a time, and labels come out for the caller's trellis coder: scrambler (clause 7),
+ * framing (clause 8), parser, shell mapper and differential coder (clauses 9.3 to 9.5). The reader is the exact
+ * inverse. Trellis coder, precoder, non-linear coder, auxiliary channel and start-up signalling are the caller's.
+ *
+ * How does it work?
+ *
+ * Seven calls, each on numbers and lent byte slices. The library keeps nothing between two calls and allocates nothing,
+ * so calls may run in any number of threads. The state of a line is seven numbers that the caller holds: a start gives
+ * the first ones, and the writer and the reader each give the next. Every call tests everything itself.
+ *
+ * Numbers. Every number is a uint64_t. A narrower type would let a C conversion turn mark 257, which states nothing,
+ * into mark 1, which states a permission. For the same reason do not narrow a number yourself on its way here: pass
+ * what you have.
+ *
+ * Slices. A slice is a pointer and a length in bytes. The caller owes, at every call:
+ *   - the pointer is to that many bytes, and is not null where the length is not 0;
+ *   - no two slices of one call overlap. Nothing tests this.
+ * A length other than the exact one is not an error of the caller's: it is refused with WW_BAD_LENGTH and nothing is
+ * touched.
+ *
+ * Results. Every call returns WW_DONE or the number of a refusal. Among several refusals the first in the order of
+ * their numbers is given, but ww_map and ww_rank test WW_BAD_COUNTS first. A refusal leaves every lent slice as it was,
+ * the answer too.
+ *
+ * Answers. What else there is to say goes into the lent answer: numbers of 32 bits, four bytes each, low byte first, in
+ * the order given at the call. ww_number takes one out. Its places are the WW_PARAMETERS_.., WW_STATE_.. below.
+ */
+#ifndef WORKERWAX_H
+#define WORKERWAX_H
+
+#include <stddef.h>
+#include <stdint.h>
+
+#ifdef __cplusplus
+extern "C" {
+#endif
+
+#define WW_VERSION_MAJOR 0
+#define WW_VERSION_MINOR 1
+#define WW_VERSION_STRING "0.1"
+
+/* A refusal that nobody looks at is taken for success. */
+#if defined(__GNUC__) || defined(__clang__)
+#define WW_MUST_USE __attribute__((warn_unused_result))
+#else
+#define WW_MUST_USE
+#endif
+
+/* What comes back. */
+#define WW_DONE 0u            /* done */
+#define WW_BAD_ROLE 1u        /* role is not 0 or 1 */
+#define WW_BAD_SYMBOL_RATE 2u /* s is above 5 */
+#define WW_BAD_RATE 3u        /* n is outside the range of s */
+#define WW_BAD_SHAPING 4u     /* shaping is not 0 or 1 */
+#define WW_UNSTATED_MARK 5u   /* mark is not 0 or 1: nobody has said what the far end can do */
+#define WW_NO_LARGE 6u        /* n is 13 or 14 and mark is 0: the far end has no large constellation (note to Table 15) */
+#define WW_BAD_STATE 7u       /* the register is 2^23 or more, or Z is above 3 */
+#define WW_BAD_LENGTH 8u      /* the length of a slice is not the exact one */
+#define WW_BAD_BIT 9u         /* writer: a data byte is above 1 */
+#define WW_BAD_LABEL 10u      /* a ring not below M, a 2D label not below M*2^q, Z above 3, I1 above 1 */
+#define WW_BAD_SET 11u        /* rings whose number is 2^K or more, or 2^(K-1) or more in a low frame with b above 12 */
+#define WW_BAD_STEP 12u       /* reader: the Z steps give I3 = 1 where the frame carries none (clause 9.3.2) */
+#define WW_BAD_COUNTS 13u     /* K is above 31, M is not 1 to 18, or 2^K is above M^8 */
+#define WW_BAD_NUMBER 14u     /* the number to be mapped is not below 2^K */
+
+/* Exact lengths in bytes. Each has a getter beside it, for languages that cannot read a macro. */
+#define WW_PARAMETERS_BYTES 32 /* answer of ww_parameters */
+#define WW_RINGS_BYTES 8       /* rings of ww_map and ww_rank, one to a byte */
+#define WW_RANK_BYTES 4        /* answer of ww_rank */
+#define WW_START_BYTES 28      /* answer of ww_start and ww_short_start */
+#define WW_WRITE_BYTES 32      /* answer of ww_write */
+#define WW_READ_BYTES 32       /* answer of ww_read */
+#define WW_LABEL_BYTES 2       /* one label, low byte first */
+
+/* The most that a data frame has, over all settings. The exact lengths are N and 32*P, for the N and P of ww_parameters. */
+#define WW_MAX_BITS 1248        /* bits, one to a byte: s 4, n 13 */
+#define WW_MAX_LABELS_BYTES 512 /* labels: s 4, whose P is 16 */
+
+static inline size_t ww_parameters_bytes(void) { return WW_PARAMETERS_BYTES; }
+static inline size_t ww_rings_bytes(void) { return WW_RINGS_BYTES; }
+static inline size_t ww_rank_bytes(void) { return WW_RANK_BYTES; }
+static inline size_t ww_start_bytes(void) { return WW_START_BYTES; }
+static inline size_t ww_write_bytes(void) { return WW_WRITE_BYTES; }
+static inline size_t ww_read_bytes(void) { return WW_READ_BYTES; }
+static inline size_t ww_label_bytes(void) { return WW_LABEL_BYTES; }
+static inline size_t ww_max_bits(void) { return WW_MAX_BITS; }
+static inline size_t ww_max_labels_bytes(void) { return WW_MAX_LABELS_BYTES; }
+
+/* Places of the numbers in the answer of ww_parameters. */
+#define WW_PARAMETERS_N 0 /* bits in a data frame */
+#define WW_PARAMETERS_P 1 /* mapping frames in a data frame */
+#define WW_PARAMETERS_B 2 /* bits in a high mapping frame; a low one has b - 1 */
+#define WW_PARAMETERS_R 3 /* high mapping frames in a data frame */
+#define WW_PARAMETERS_K 4 /* bits for the shell mapper */
+#define WW_PARAMETERS_Q 5 /* bits of a 2D label below its ring */
+#define WW_PARAMETERS_M 6 /* rings */
+#define WW_PARAMETERS_L 7 /* points of the constellation: 4*M*2^q */
+
+/* Places of the state's numbers: as they stand in the answer of a start. Writer and reader put N first and the state behind. */
+#define WW_STATE_ROLE 0
+#define WW_STATE_S 1
+#define WW_STATE_N 2
+#define WW_STATE_SHAPING 3
+#define WW_STATE_MARK 4
+#define WW_STATE_REGISTER 5
+#define WW_STATE_Z 6
+#define WW_STATE_NUMBERS 7
+#define WW_NEXT_BITS 0  /* in the answers of ww_write and ww_read: N */
+#define WW_NEXT_STATE 1 /* in the answers of ww_write and ww_read: the next state's first number */
+
+/* Seven numbers of a state, and the first five of them, as the arguments of a call. */
+#define WW_STATE(x) (x)[0], (x)[1], (x)[2], (x)[3], (x)[4], (x)[5], (x)[6]
+#define WW_SETTINGS(x) (x)[0], (x)[1], (x)[2], (x)[3], (x)[4]
+
+/* The number at a place of an answer. The place must be within the answer. */
+static inline uint32_t ww_number(const uint8_t *answer, size_t place)
+{
+    const uint8_t *from = answer + 4 * place;
+    return (uint32_t)from[0] | (uint32_t)from[1] << 8 | (uint32_t)from[2] << 16 | (uint32_t)from[3] << 24;
+}
+
+/* The label at a place of the labels. For 4D symbol j of mapping frame i the places are 16*i + 4*j and the three behind it. */
+static inline uint32_t ww_label(const uint8_t *labels, size_t place)
+{
+    return (uint32_t)labels[2 * place] | (uint32_t)labels[2 * place + 1] << 8;
+}
+
+/*
+ * The settings, the same five numbers at every call that takes them:
+ *   role      0 call modem, 1 answer modem: which polynomial of clause 7. It is the sending end's, in the reader too
+ *   s         symbol rate, 0 to 5: 2400, 2743, 2800, 3000, 3200, 3429 (Table 7)
+ *   n         data rate in steps of 2,400 bit/s: 1 to 9 where s is 0; from 2 up to 11, 11, 12, 13 and 14 where s is 1 to 5
+ *   shaping   0 minimum M, 1 expanded M (Table 10)
+ *   mark      0 the far end has no large constellation (of up to 1664 points), 1 it has, any other number: nobody has said
+ */
+
+/*
+ * ww_parameters: the numbers that follow from the settings (clauses 8.2, 9.2 and 9.3).
+ *
+ * Owed: answer of WW_PARAMETERS_BYTES.
+ * Given: N P b r K q M L.
+ * Refused: 1, 2, 3, 4, 5, 6, then 8.
+ */
+uint32_t ww_parameters(uint64_t role, uint64_t s, uint64_t n, uint64_t shaping, uint64_t mark,
+                       uint8_t *answer, size_t answer_length) WW_MUST_USE;
+
+/*
+ * ww_map: the eight rings m1 to m8 of a number, each below M (clause 9.4). k and m are K and M.
+ *
+ * Owed: rings of WW_RINGS_BYTES.
+ * Given: the rings, one to a byte, m1 first.
+ * Refused: 13, then 8, then 14.
+ */
+uint32_t ww_map(uint64_t k, uint64_t m, uint64_t number, uint8_t *rings, size_t rings_length) WW_MUST_USE;
+
+/*
+ * ww_rank: the number of eight rings: ww_map's inverse. The rings are only read.
+ *
+ * Owed: rings of WW_RINGS_BYTES and answer of WW_RANK_BYTES.
+ * Given: the number, which is below 2^K.
+ * Refused: 13, then 8, then 10 (a ring not below M), then 11 (the number is 2^K or more).
+ */
+uint32_t ww_rank(uint64_t k, uint64_t m, const uint8_t *rings, size_t rings_length,
+                 uint8_t *answer, size_t answer_length) WW_MUST_USE;
+
+/*
+ * ww_start: checks the settings, the register and Z, and gives the first state.
+ *
+ * reg is the scrambler's register: its bit of weight 2^(k-1) is the output k places back (clause 7). z is the
+ * differential coder's last output (clause 9.5).
+ *
+ * Owed: answer of WW_START_BYTES.
+ * Given: role s n shaping mark register Z.
+ * Refused: 1, 2, 3, 4, 5, 6, 7, then 8.
+ */
+uint32_t ww_start(uint64_t role, uint64_t s, uint64_t n, uint64_t shaping, uint64_t mark, uint64_t reg, uint64_t z,
+                  uint8_t *answer, size_t answer_length) WW_MUST_USE;
+
+/*
+ * ww_short_start: ww_start with shaping 0, register 0 and Z 0. The mark has no default: it must be stated here too.
+ *
+ * Owed: answer of WW_START_BYTES.
+ * Given: role s n 0 mark 0 0.
+ * Refused: 1, 2, 3, 5, 6, then 8.
+ */
+uint32_t ww_short_start(uint64_t role, uint64_t s, uint64_t n, uint64_t mark,
+                        uint8_t *answer, size_t answer_length) WW_MUST_USE;
+
+/*
+ * ww_write: the N bits of one data frame become 16*P labels (clauses 7 to 9.5).
+ *
+ * The numbers are the state. For each of the P mapping frames, and in it for each of the four 4D symbols, four labels
+ * are written: 2^q*ring + q bits for the first 2D symbol, the same for the second, Z, and I1. The bits are only read.
+ *
+ * Owed: bits of N bytes, each 0 or 1; labels of 32*P bytes; answer of WW_WRITE_BYTES.
+ * Given: the labels, and in answer N and then the next state: role s n shaping mark register Z.
+ * Refused: 1, 2, 3, 4, 5, 6, 7, then 8 (any of the three lengths), then 9.
+ */
+uint32_t ww_write(uint64_t role, uint64_t s, uint64_t n, uint64_t shaping, uint64_t mark, uint64_t reg, uint64_t z,
+                  const uint8_t *bits, size_t bits_length, uint8_t *labels, size_t labels_length,
+                  uint8_t *answer, size_t answer_length) WW_MUST_USE;
+
+/*
+ * ww_read: the 16*P labels of one data frame become its N bits: ww_write's inverse. It accepts exactly what ww_write
+ * can write.
+ *
+ * The settings are those of the end that SENT the labels: role is the sending end's, and mark then speaks of the
+ * receiving end, which is the one that reads here. The register holds the last 23 scrambled bits that were received, z
+ * the last Z. The labels are only read, and what the bits held before is not looked at.
+ *
+ * Owed: labels of 32*P bytes; bits of N bytes; answer of WW_READ_BYTES.
+ * Given: the bits, one to a byte, and in answer N and then the next state: role s n shaping mark register Z.
+ * Refused: 1, 2, 3, 4, 5, 6, 7, then 8 (any of the three lengths, an odd one of labels too), then 10, 11 and 12: all
+ * labels of the data frame are tested for 10 before any for 11, and all for 11 before any for 12.
+ */
+uint32_t ww_read(uint64_t role, uint64_t s, uint64_t n, uint64_t shaping, uint64_t mark, uint64_t reg, uint64_t z,
+                 const uint8_t *labels, size_t labels_length, uint8_t *bits, size_t bits_length,
+                 uint8_t *answer, size_t answer_length) WW_MUST_USE;
+
+#ifdef __cplusplus
+}
+#endif
+
+#endif
