@@ -8,6 +8,7 @@
 --     Plain       the plain lists hold every set once, M^8 sets of eight
 --     Agree       counting and listing agree, for all M at once
 --     Formulas    clause 9.4's formulas (9-3) to (9-6)
+--     Steps       the counts of fours one after the other, by sums alone
 --     Starred     the cases that document 01 marks as proved
 pub mod Halves
 pub mod Bounds
@@ -18,4 +19,5 @@ pub mod Listing
 pub mod Plain
 pub mod Agree
 pub mod Formulas
+pub mod Steps
 pub mod Starred

@@ -1,8 +1,9 @@
 // The counts of an M, laid out once for as many numbers as are wanted.
 ghost use mathlib.Core.Path.{_≡_};
+ghost use Prim.Native.Nat.{ℕ, _-_, _≤_};
+ghost use Rattle.laws.specs.Sum.{sum};
 ghost use Rattle.listing.specs.Counts.{g2, g4};
 ghost use Rattle.rings.specs.Counts.{at, Known, CountsOf};
-use crate::locate::lighter_sum;
 use crate::pair::pair_count;
 use crate::table::lighter_row;
 
@@ -30,17 +31,60 @@ fn pair_row(m: u64) -> [u64; 69]
     row
 }
 
-// Fours by their two pairs: none weighs more than 4(m − 1).
+// How many pairs weigh less than n, for n = 0 to 69.
+fn pair_sums(m: u64, pairs: &[u64; 69]) -> [u64; 70]
+    requires { ⌜ Known m ⌝ }
+    requires { ⌜ at (now pairs) ≡ g2 m ⌝ }
+    ensures { λ r. ⌜ ((n : ℕ) → n ≤ 69 → at r n ≡ sum (g2 m) n) ⌝ }
+{
+    let mut sums = [0u64; 70];
+    let mut n = 0;
+    while n < 69 {
+        sums[n + 1] = sums[n] + pairs[n];
+        n += 1;
+    }
+    sums
+}
+
+// How many pairs weigh less than n − k; none where k is more than n.
+fn lighter_pairs(m: u64, sums: &[u64; 70], n: usize, k: usize) -> u64
+    requires { ⌜ n ≤ 69 ⌝ }
+    requires { ⌜ ((n : ℕ) → n ≤ 69 → at (now sums) n ≡ sum (g2 m) n) ⌝ }
+    ensures { λ r. ⌜ r ≡ sum (g2 m) (n - k) ⌝ }
+{
+    if n < k {
+        return 0;
+    }
+    sums[n - k]
+}
+
+// The count of fours of sum p, out of the one before it: no product, since the counts of pairs rise by one and then fall by one.
+fn next_four(m: u64, sums: &[u64; 70], before: u64, p: usize) -> u64
+    requires { ⌜ Known m ⌝ }
+    requires { ⌜ ((n : ℕ) → n ≤ 69 → at (now sums) n ≡ sum (g2 m) n) ⌝ }
+    requires { ⌜ (1 ≤ p) × (p ≤ 68) × (before ≡ g4 m (p - 1)) ⌝ }
+    ensures { λ r. ⌜ r ≡ g4 m p ⌝ }
+{
+    let k = m as usize;
+    let all = lighter_pairs(m, sums, p + 1, 0);
+    let fallen = lighter_pairs(m, sums, p + 1, k);
+    let gone = lighter_pairs(m, sums, p + 1, 2 * k);
+    before + all + gone - 2 * fallen
+}
+
+// Fours one after the other: none weighs more than 4(m − 1).
 fn four_row(m: u64, pairs: &[u64; 69]) -> [u64; 137]
     requires { ⌜ Known m ⌝ }
     requires { ⌜ at (now pairs) ≡ g2 m ⌝ }
     ensures { λ r. ⌜ at r ≡ g4 m ⌝ }
 {
     let end = 4 * m as usize - 3;
+    let sums = pair_sums(m, pairs);
     let mut row = [0u64; 137];
-    let mut p = 0;
+    row[0] = 1;
+    let mut p = 1;
     while p < end {
-        row[p] = lighter_sum(pairs, p, p + 1);
+        row[p] = next_four(m, &sums, row[p - 1], p);
         p += 1;
     }
     row
