@@ -54,7 +54,8 @@ pub fn number_read(c: Counts, shape: Shape, labels: &[u16]) -> u64
     requires { ⌜ Numbered c shape (now labels) ⌝ }
     ensures { λ r. ⌜ r ≡ numberRead (c .m) shape (now (labels .entry)) ⌝ }
 {
-    number_of(c, rings_read(shape.uncoded, labels))
+    let rings = rings_read(shape.uncoded, labels);
+    number_of(c.m, &c.pairs, &c.fours, &c.lighter, rings)
 }
 
 // The step from one Z to the next: I2 + 2·I3.

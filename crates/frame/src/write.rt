@@ -39,7 +39,7 @@ pub fn write_frame(c: Counts, shape: Shape, z: u64, bits: &[u8], out: &mut [u16]
 {
     let q = shape.uncoded;
     let s = value_at(bits, 0, shape.shell);
-    let rings = rings_of(c, s);
+    let rings = rings_of(c.m, &c.pairs, &c.fours, &c.lighter, s);
     let ring = rings.ring;
     let mut at = shape.shell;
     let mut turned = z;

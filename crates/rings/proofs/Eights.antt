@@ -18,15 +18,10 @@ use Rattle.listing.specs.Sets.{Eight, Below8, weight4, weight8}
 use Rattle.listing.proofs.Agree.{z8-all, heaviest, number-below-all}
 use Rattle.listing.proofs.CountLaws.{g4-ends}
 use Rattle.listing.proofs.Halves.{Halved, halved}
-use Rattle.rings.specs.Counts.{at, Known, CountsOf, Ascending, Summable, Locatable, locatedOf}
+use Rattle.rings.specs.Counts.{at, Known, EightRows, Ascending, Summable, Locatable, locatedOf}
 use Rattle.rings.specs.Parts.{halvesOf}
-use Rattle.rings.specs.declared.counts.Counts.{Counts}
 use Rattle.rings.specs.declared.locate.Located.{Located}
 use Rattle.rings.specs.declared.number.Halves.{Halves}
-
--- counts of M are the counts of their own M
-pub own : (M : ℕ) (c : Counts) → CountsOf M c → CountsOf (c .m) c
-own M c k = subst (λ (n : ℕ). CountsOf n c) (sym (k .of)) k
 
 -- M^8 is at most 18^8, which has 34 bits
 pub power-bound : (M : ℕ) → Known M → M ^ 8 ≤ 11019960576
@@ -47,12 +42,12 @@ four-weight M p i known h =
 
 -- the row of running sums rises, and starts at 0
 pub ascending :
-    (M S : ℕ) (c : Counts)
-    → CountsOf M c
-    → length (c .lighter) ≡ 137
-    → Ascending (c .lighter) (8 * (M - 1)) S
+    (M S : ℕ) (fourRow lighterRow : List ℕ)
+    → EightRows M fourRow lighterRow
+    → length lighterRow ≡ 137
+    → Ascending lighterRow (8 * (M - 1)) S
 unfolding z8
-ascending M S c k long = record {
+ascending M S fourRow lighterRow k long = record {
   inside = omega arith;
   start = let z = k .lighter 0 (omega arith) in let s = sum-zero (g8 M) in omega arith;
   rises = λ p q l h.
@@ -99,27 +94,27 @@ module _ (M S : ℕ) (below : S < M ^ 8) where
 
   -- what `locate_weight` finds in the row of running sums
   pub weighed :
-      (c : Counts) (x : Located)
-      → CountsOf M c
-      → x ≡ locatedOf (at (c .lighter)) S (8 * (M - 1))
+      (fourRow lighterRow : List ℕ) (x : Located)
+      → EightRows M fourRow lighterRow
+      → x ≡ locatedOf (at lighterRow) S (8 * (M - 1))
       → (x .at ≡ weight) × (x .rest ≡ rest)
   unfolding locatedOf weight rest
-  weighed c x k found =
-      let same = largest-same (at (c .lighter)) (z8 M) S (8 * (M - 1)) (k .lighter) in
-      let there = k .lighter (largest (at (c .lighter)) S (8 * (M - 1))) (largest-le (at (c .lighter)) S (8 * (M - 1))) in (
+  weighed fourRow lighterRow x k found =
+      let same = largest-same (at lighterRow) (z8 M) S (8 * (M - 1)) (k .lighter) in
+      let there = k .lighter (largest (at lighterRow) S (8 * (M - 1))) (largest-le (at lighterRow) S (8 * (M - 1))) in (
         ap (λ (y : Located). y .at) found ∙ same,
         ap (λ (y : Located). y .rest) found ∙ ap (λ (n : ℕ). S - n) (there ∙ ap (z8 M) same),
       )
 
   -- the place among the eights of that weight can be located
   pub locatable8 :
-      (c : Counts) (x : Located)
-      → CountsOf M c
+      (fourRow lighterRow : List ℕ) (x : Located)
+      → EightRows M fourRow lighterRow
       → (x .at ≡ weight) × (x .rest ≡ rest)
-      → length (c .fours) ≡ 137
-      → Locatable (c .fours) (x .at) (x .rest)
+      → length fourRow ≡ 137
+      → Locatable fourRow (x .at) (x .rest)
   unfolding g8
-  locatable8 c x k e long =
+  locatable8 fourRow lighterRow x k e long =
       let bound = power-bound M (k .known) in
       let g = g8-bound M weight weight-top in
       let t = weight-top in
@@ -163,7 +158,7 @@ module _ (M S : ℕ) (below : S < M ^ 8) where
       rw (found, whole, same) (split8-here known)
 
 -- the number of a set, from its parts: none is larger than the whole, and that has 34 bits
-module _ (M : ℕ) (c : Counts) (x : Eight) (k : CountsOf M c) (below : Below8 M x) where
+module _ (M : ℕ) (fourRow lighterRow : List ℕ) (x : Eight) (k : EightRows M fourRow lighterRow) (below : Below8 M x) where
   pub number-fits : number M x < 11019960576
   number-fits = let p = power-bound M (k .known) in let n = number-below-all M x below in omega arith
 
@@ -171,22 +166,22 @@ module _ (M : ℕ) (c : Counts) (x : Eight) (k : CountsOf M c) (below : Below8 M
       (front back passed first second : ℕ)
       → front ≡ weight4 (x .0)
       → back ≡ weight4 (x .1)
-      → passed ≡ lighter (at (c .fours)) (front + back) front
+      → passed ≡ lighter (at fourRow) (front + back) front
       → first ≡ placeOfFour M (x .0)
       → second ≡ placeOfFour M (x .1)
-      → at (c .lighter) (front + back) + (passed + (second * at (c .fours) front + first)) ≡ number M x
+      → at lighterRow (front + back) + (passed + (second * at fourRow front + first)) ≡ number M x
   unfolding number
   number-whole front back passed first second e1 e2 es ef eg =
-      let lower : at (c .lighter) (front + back) ≡ z8 M (weight8 x) = rw (e1, e2) (k .lighter (weight8 x) (heaviest M x below)) in
+      let lower : at lighterRow (front + back) ≡ z8 M (weight8 x) = rw (e1, e2) (k .lighter (weight8 x) (heaviest M x below)) in
       let before : passed ≡ lighter (g4 M) (weight8 x) (weight4 (x .0)) = es ∙ rw (e1, e2, k .fours) in
-      let fours : at (c .fours) front ≡ g4 M (weight4 (x .0)) = ap (λ (g : ℕ → ℕ). g front) (k .fours) ∙ ap (g4 M) e1 in
+      let fours : at fourRow front ≡ g4 M (weight4 (x .0)) = ap (λ (g : ℕ → ℕ). g front) (k .fours) ∙ ap (g4 M) e1 in
       rw (lower, before, fours, ef, eg)
 
   -- the weights stay inside the rows, and what is summed is part of the eights of one weight
   pub weights-inside : weight8 x ≤ 136
   weights-inside = let h = heaviest M x below in let m = k .known .high in omega arith
 
-  pub summable8 : length (c .fours) ≡ 137 → Summable (c .fours) (weight8 x) (weight4 (x .0))
+  pub summable8 : length fourRow ≡ 137 → Summable fourRow (weight8 x) (weight4 (x .0))
   unfolding g8 lighter
   summable8 long =
       let w = weights-inside in

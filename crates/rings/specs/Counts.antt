@@ -21,13 +21,21 @@ pub record Known (M : ℕ) : Type 0 where
   pub low : 1 ≤ M
   pub high : M ≤ 18
 
+-- two rows are those of the fours and of the lighter eights of M
+pub record EightRows (M : ℕ) (fourRow lighterRow : List ℕ) : Type 0 where
+  pub known : Known M
+  pub fours : at fourRow ≡ g4 M
+  pub lighter : (p : ℕ) → p ≤ 8 * (M - 1) → at lighterRow p ≡ z8 M p
+
+-- and a third is that of the pairs
+pub record Rows (M : ℕ) (pairRow fourRow lighterRow : List ℕ) : Type 0 where
+  pub pairs : at pairRow ≡ g2 M
+  pub eights : EightRows M fourRow lighterRow
+
 -- c holds the counts of M
 pub record CountsOf (M : ℕ) (c : Counts) : Type 0 where
   pub of : c .m ≡ M
-  pub known : Known M
-  pub pairs : at (c .pairs) ≡ g2 M
-  pub fours : at (c .fours) ≡ g4 M
-  pub lighter : (p : ℕ) → p ≤ 8 * (M - 1) → at (c .lighter) p ≡ z8 M p
+  pub rows : Rows M (c .pairs) (c .fours) (c .lighter)
 
 -- what has to hold where the row's products g(p)·g(t − p) are summed over p < b
 pub record Summable (row : List ℕ) (t b : ℕ) : Type 0 where

@@ -55,7 +55,8 @@ pub fn map(k: u64, m: u64, s: u64, out: &mut [u8]) -> u64
     if refusal != 0 {
         return refusal;
     }
-    let x = rings_of(counts_of(m), s);
+    let c = counts_of(m);
+    let x = rings_of(m, &c.pairs, &c.fours, &c.lighter, s);
     store(x, out);
     0
 }
@@ -68,7 +69,8 @@ pub fn rank(k: u64, m: u64, rings: &[u8]) -> Ranked
     if refusal != 0 {
         return Ranked { refusal, number: 0 };
     }
-    let number = number_of(counts_of(m), load(rings));
+    let c = counts_of(m);
+    let number = number_of(m, &c.pairs, &c.fours, &c.lighter, load(rings));
     if 1 << k <= number {
         return Ranked {
             refusal: 11,

@@ -3,9 +3,8 @@ ghost use mathlib.Core.Path.{_≡_};
 ghost use Prim.Native.Nat.{_^_, _<_};
 ghost use Rattle.listing.specs.Number.{ringsOf, number};
 ghost use Rattle.listing.specs.Sets.{Below8, asList, ofList};
-ghost use Rattle.rings.specs.Counts.{CountsOf};
+ghost use Rattle.rings.specs.Counts.{EightRows, Rows};
 ghost use Rattle.rings.specs.Parts.{fourOf, halvesOf};
-use crate::counts::Counts;
 use crate::four::FourRings;
 use crate::four::four_at;
 use crate::four::place_of_four;
@@ -29,16 +28,16 @@ pub struct Halves {
 }
 
 // Steps 2 to 4. The first four takes the remainder, the second the quotient.
-fn halves_of(c: Counts, s: u64) -> Halves
-    requires { ⌜ CountsOf (c .m) c ⌝ }
-    requires { ⌜ s < c .m ^ 8 ⌝ }
-    ensures { λ r. ⌜ r ≡ halvesOf (c .m) s ⌝ }
+fn halves_of<'a>(m: u64, fours: &'a [u64; 137], lighter: &'a [u64; 137], s: u64) -> Halves
+    requires { ⌜ EightRows m (now fours) (now lighter) ⌝ }
+    requires { ⌜ s < m ^ 8 ⌝ }
+    ensures { λ r. ⌜ r ≡ halvesOf m s ⌝ }
 {
-    let top = 8 * (c.m as usize - 1);
-    let whole = locate_weight(&c.lighter, top, s);
-    let found = locate(&c.fours, whole.at, whole.rest);
+    let top = 8 * (m as usize - 1);
+    let whole = locate_weight(lighter, top, s);
+    let found = locate(fours, whole.at, whole.rest);
     let b = found.at;
-    let first_fours = c.fours[b];
+    let first_fours = fours[b];
     Halves {
         weight: whole.at,
         first_weight: b,
@@ -47,15 +46,22 @@ fn halves_of(c: Counts, s: u64) -> Halves
     }
 }
 
-// The eight rings of s.
-pub fn rings_of(c: Counts, s: u64) -> Rings
-    requires { ⌜ CountsOf (c .m) c ⌝ }
-    requires { ⌜ s < c .m ^ 8 ⌝ }
-    ensures { λ r. ⌜ r .ring ≡ asList (ringsOf (c .m) s) ⌝ }
+// The eight rings of s, over the rows of the counts of m. The rows are lent, since counts by value would be copied at each number, and at
+// one lifetime, since all three are fields of one value.
+pub fn rings_of<'a>(
+    m: u64,
+    pairs: &'a [u64; 69],
+    fours: &'a [u64; 137],
+    lighter: &'a [u64; 137],
+    s: u64,
+) -> Rings
+    requires { ⌜ Rows m (now pairs) (now fours) (now lighter) ⌝ }
+    requires { ⌜ s < m ^ 8 ⌝ }
+    ensures { λ r. ⌜ r .ring ≡ asList (ringsOf m s) ⌝ }
 {
-    let h = halves_of(c, s);
-    let front = four_at(c.m, &c.pairs, h.first_weight, h.first_place);
-    let back = four_at(c.m, &c.pairs, h.weight - h.first_weight, h.second_place);
+    let h = halves_of(m, fours, lighter, s);
+    let front = four_at(m, pairs, h.first_weight, h.first_place);
+    let back = four_at(m, pairs, h.weight - h.first_weight, h.second_place);
     Rings {
         ring: [
             front.first.first as u8,
@@ -87,25 +93,38 @@ fn four_from(m1: u8, m2: u8, m3: u8, m4: u8) -> FourRings
 }
 
 // The number of two fours.
-fn number_of_fours(c: Counts, front: FourRings, back: FourRings) -> u64
-    requires { ⌜ CountsOf (c .m) c ⌝ }
-    requires { ⌜ Below8 (c .m) (fourOf front, fourOf back) ⌝ }
-    ensures { λ r. ⌜ r ≡ number (c .m) (fourOf front, fourOf back) ⌝ }
+fn number_of_fours<'a>(
+    m: u64,
+    pairs: &'a [u64; 69],
+    fours: &'a [u64; 137],
+    lighter: &'a [u64; 137],
+    front: FourRings,
+    back: FourRings,
+) -> u64
+    requires { ⌜ Rows m (now pairs) (now fours) (now lighter) ⌝ }
+    requires { ⌜ Below8 m (fourOf front, fourOf back) ⌝ }
+    ensures { λ r. ⌜ r ≡ number m (fourOf front, fourOf back) ⌝ }
 {
     let b = weight_of_four(front);
     let a = b + weight_of_four(back);
-    let first = place_of_four(c.m, &c.pairs, front);
-    let second = place_of_four(c.m, &c.pairs, back);
-    c.lighter[a] + (lighter_sum(&c.fours, a, b) + (second * c.fours[b] + first))
+    let first = place_of_four(m, pairs, front);
+    let second = place_of_four(m, pairs, back);
+    lighter[a] + (lighter_sum(fours, a, b) + (second * fours[b] + first))
 }
 
-// The number of eight rings.
-pub fn number_of(c: Counts, x: Rings) -> u64
-    requires { ⌜ CountsOf (c .m) c ⌝ }
-    requires { ⌜ Below8 (c .m) (ofList (x .ring)) ⌝ }
-    ensures { λ r. ⌜ r ≡ number (c .m) (ofList (x .ring)) ⌝ }
+// The number of eight rings, over the rows of the counts of m.
+pub fn number_of<'a>(
+    m: u64,
+    pairs: &'a [u64; 69],
+    fours: &'a [u64; 137],
+    lighter: &'a [u64; 137],
+    x: Rings,
+) -> u64
+    requires { ⌜ Rows m (now pairs) (now fours) (now lighter) ⌝ }
+    requires { ⌜ Below8 m (ofList (x .ring)) ⌝ }
+    ensures { λ r. ⌜ r ≡ number m (ofList (x .ring)) ⌝ }
 {
     let front = four_from(x.ring[0], x.ring[1], x.ring[2], x.ring[3]);
     let back = four_from(x.ring[4], x.ring[5], x.ring[6], x.ring[7]);
-    number_of_fours(c, front, back)
+    number_of_fours(m, pairs, fours, lighter, front, back)
 }

@@ -12,17 +12,18 @@ rings-read-requires c κs =
     let p = c .before .pre in
     let a = c .before .args in
     let eight = eight-rings (a .shape .uncoded) (a .labels .now) in
-    let below = ring-below (a .c .m) _ (rings-below (a .c .m) (a .shape .uncoded) 4 (a .labels .now) (p .ranges)) in
-    record { uncoded = p .uncoded; sixteen = p .sixteen; small = λ i h. omega (arith, p .counts .known .high, below i (rw eight h)) }
+    let below = ring-below (a .t1 .m) _ (rings-below (a .t1 .m) (a .shape .uncoded) 4 (a .labels .now) (p .ranges)) in
+    record { uncoded = p .uncoded; sixteen = p .sixteen; small = λ i h. omega (arith, p .counts .rows .eights .known .high, below i (rw eight h)) }
 
 number-of-requires : tie.Need-number-of-requires
 number-of-requires c κs =
-    let p = c .before .before .pre in
-    (p .counts, rw (c .rings-read .ensures) (all-below _ _ (eight-rings _ _) (rings-below _ _ 4 _ (p .ranges))))
+    let r = c .before .before .before .before in
+    let p = r .before .before .pre in
+    (p .counts .rows, rw (r .rings-read .ensures) (all-below _ _ (eight-rings _ _) (rings-below _ _ 4 _ (p .ranges))))
 
 returns : tie.Need-returns
 unfolding numberRead
-returns c = c .number-of .ensures ∙ rw (c .before .rings-read .ensures)
+returns c = c .number-of .ensures ∙ rw (c .before .before .before .before .before .rings-read .ensures)
 
 pub number-read-spec : {M : Type 1} → statement M
 number-read-spec = tie.close (tie.spec rings-read-requires number-of-requires returns)

@@ -27,46 +27,53 @@ value-at-requires c κs = let p = c .before .before .pre in (omega arith, p .few
 
 -- S has eight rings
 number-below :
-    (k : tie.After-value-at Inv-loop μ-loop) → k .value-at .result < k .before .before .before .args .c .m ^ 8
+    (k : tie.After-value-at Inv-loop μ-loop) → k .value-at .result < k .before .before .before .args .t1 .m ^ 8
 number-below k =
     let s = k .before .before .before in
     omega (arith, k .value-at .ensures, value-take-below (s .args .shape .shell) (s .args .bits .now) (s .pre .binary), s .pre .room)
 
 rings-of-requires : tie.Need-rings-of-requires Inv-loop μ-loop
-rings-of-requires c κs = (c .before .before .before .pre .counts, number-below c)
+rings-of-requires c κs =
+    let k = c .before .before .before .before in
+    (k .before .before .before .pre .counts .rows, number-below k)
+
+-- the number whose rings they are
+abbrev valued : tie.After-rings-of Inv-loop μ-loop → tie.After-value-at Inv-loop μ-loop
+valued k = k .before .before .before .before .before
+
+abbrev begun : tie.After-rings-of Inv-loop μ-loop → tie.Start Inv-loop μ-loop
+begun k = valued k .before .before .before
 
 -- the rings that the specs say
 ring-is :
     (k : tie.After-rings-of Inv-loop μ-loop)
-    → let a = k .before .before .before .before .args in
-    k .rings-of .result .ring ≡ asList (ringsOf (a .c .m) (value (take (a .shape .shell) (a .bits .now))))
-ring-is k =
-    k .rings-of .ensures
-    ∙ ap (λ (s : ℕ). asList (ringsOf (k .before .before .before .before .args .c .m) s)) (k .before .value-at .ensures)
+    → let a = begun k .args in
+    k .rings-of .result .ring ≡ asList (ringsOf (a .t1 .m) (value (take (a .shape .shell) (a .bits .now))))
+ring-is k = k .rings-of .ensures ∙ ap (λ (s : ℕ). asList (ringsOf (begun k .args .t1 .m) s)) (valued k .value-at .ensures)
 
 -- and none is large
 ring-below : (k : tie.After-rings-of Inv-loop μ-loop) (i : ℕ) → getD (k .rings-of .result .ring) i 0 < 18
 ring-below k i =
-    let s = k .before .before .before .before in
-    ring-small (s .args .c .m) (k .before .value-at .result) _ (k .rings-of .ensures) (s .pre .counts .known .high) (number-below (k .before)) i
+    let s = begun k in
+    ring-small (s .args .t1 .m) (valued k .value-at .result) _ (k .rings-of .ensures) (s .pre .counts .rows .eights .known .high) (number-below (valued k)) i
 
 loop-holds : tie.Need-loop-holds Inv-loop μ-loop
 loop-holds c =
-    let s = c .before .before .before .before .before in
+    let s = begun (c .before) in
     halfway-none (s .args .shape) (s .args .bits .now) _ (s .args .z) (s .args .out .now) (s .pre .turn) (s .pre .size) (s .pre .sixteen)
 
 symbol-at-requires : tie.Need-symbol-at-requires Inv-loop μ-loop
 symbol-at-requires c κs =
     let k = c .before in
-    let s = k .before .before .before .before .before .before .before in
+    let s = begun (k .before .before .before) in
     (bits-there (k .before .loop .inv) (k .loop-test .taken), s .pre .uncoded, s .pre .binary)
 
 -- the numbers of the symbol are small
 small :
     (k : tie.After-symbol-at Inv-loop μ-loop)
-    → Small (k .before .before .before .before .before .before .before .before .before .args .shape .uncoded) (k .symbol-at .result)
+    → Small (begun (k .before .before .before .before .before) .args .shape .uncoded) (k .symbol-at .result)
 small k =
-    let s = k .before .before .before .before .before .before .before .before .before in
+    let s = begun (k .before .before .before .before .before) in
     symbol-small _ _ (k .before .before .before .loop .at) (s .args .bits .now) _ (s .pre .binary) (k .symbol-at .ensures)
 
 turn-requires : tie.Need-turn-requires Inv-loop μ-loop
@@ -82,7 +89,7 @@ label-requires : tie.Need-label-requires Inv-loop μ-loop
 label-requires c κs =
     let k = c .before in
     let r = k .before .before .before .before .before in
-    (r .before .before .before .before .pre .uncoded, ring-below r _, small k .first)
+    (begun r .pre .uncoded, ring-below r _, small k .first)
 
 mul-label-2 : tie.Need-mul-label-2 Inv-loop μ-loop
 mul-label-2 c = omega arith
@@ -97,7 +104,7 @@ label-requires-2 : tie.Need-label-requires-2 Inv-loop μ-loop
 label-requires-2 c κs =
     let k = c .before .before in
     let r = k .before .before .before .before .before in
-    (r .before .before .before .before .pre .uncoded, ring-below r _, small k .second)
+    (begun r .pre .uncoded, ring-below r _, small k .second)
 
 mul-put-four : tie.Need-mul-put-four Inv-loop μ-loop
 mul-put-four c = omega arith
@@ -124,7 +131,7 @@ abbrev turn-of : tie.After-lead Inv-loop μ-loop → tie.In-loop Inv-loop μ-loo
 turn-of k = k .before .before .before .before .before .before .before .before .before .before .before
 
 abbrev start-of : tie.After-lead Inv-loop μ-loop → tie.Start Inv-loop μ-loop
-start-of k = turn-of k .before .before .before .before .before .before .before
+start-of k = begun (turn-of k .before .before .before)
 
 -- where the bits of the next symbol start
 next-at :
@@ -172,14 +179,14 @@ loop-again c =
 
 same-length : tie.Need-same-length Inv-loop μ-loop
 same-length c =
-    let s = c .before .before .before .before .before .before .before in
+    let s = begun (c .before .before .before) in
     sixteen (c .before .loop .inv) ∙ sym (s .pre .sixteen)
 
 returns : tie.Need-returns Inv-loop μ-loop
 returns c =
     let k = c .before .before .before in
-    let a = k .before .before .before .before .args in
-    halfway-all (c .before .loop .inv) (a .c .m) (c .loop-test .left) (ring-is k)
+    let a = begun k .args in
+    halfway-all (c .before .loop .inv) (a .t1 .m) (c .loop-test .left) (ring-is k)
 
 pub write-frame-spec : {M : Type 1} → statement M
 write-frame-spec =

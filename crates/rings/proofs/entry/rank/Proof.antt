@@ -12,7 +12,6 @@ use Rattle.listing.specs.Number.{number}
 use Rattle.listing.specs.Sets.{Below8, ofList}
 use Rattle.rings.specs.Answers.{rankTested}
 use Rattle.rings.proofs.Answering.{Tested, tested, rank-refused, rank-last, rank-accepts, rank-answer}
-use Rattle.rings.proofs.Eights.{own}
 use Rattle.rings.proofs.Tests.{all-below}
 use Rattle.rings.proofs.entry.rank.Statement.{statement}
 use Rattle.rings.proofs.entry.rank.Tie as tie
@@ -34,27 +33,31 @@ counts-of-requires : tie.Need-counts-of-requires
 counts-of-requires c κs = let p = passed c .allowed in record { low = p .low; high = p .high }
 
 load-requires : tie.Need-load-requires
-load-requires c κs = passed (c .before) .eight
+load-requires c κs = passed (c .before .before .before .before .before) .eight
 
 number-of-requires : tie.Need-number-of-requires
 number-of-requires c κs =
-    let k = c .before .counts-of .ensures in
-    let t = passed (c .before .before) in
-    (own _ _ k, rw (k .of, c .load .ensures) (all-below _ _ (t .eight) (t .below)))
+    let k = c .before .before .before .before .before in
+    let t = passed (k .before) in
+    (k .counts-of .ensures .rows, rw (c .load .ensures) (all-below _ _ (t .eight) (t .below)))
+
+-- no test refused the rings that are ranked
+tests : (k : tie.After-number-of) → let a = k .before .before .before .before .before .before .before .before .before .before .args in Tested (a .k) (a .m) (a .rings .now)
+tests k = passed (k .before .before .before .before .before .before .before)
 
 -- the number is that of the rings
 found :
     (k : tie.After-number-of)
-    → let a = k .before .before .before .before .before .before .args in
+    → let a = k .before .before .before .before .before .before .before .before .before .before .args in
     k .number-of .result ≡ number (a .m) (ofList (a .rings .now))
-found k = k .number-of .ensures ∙ rw (k .before .before .counts-of .ensures .of, k .before .load .ensures)
+found k = k .number-of .ensures ∙ rw (k .before .load .ensures)
 
 -- the shift is of fewer than 64
 few-bits :
     (k : tie.After-number-of)
-    → let a = k .before .before .before .before .before .before .args in
+    → let a = k .before .before .before .before .before .before .before .before .before .before .args in
     a .k < 64
-few-bits k = omega (arith, passed (k .before .before .before) .allowed .bits)
+few-bits k = omega (arith, tests k .allowed .bits)
 
 shl-if2 : tie.Need-shl-if2
 shl-if2 c = few-bits c
@@ -62,14 +65,14 @@ shl-if2 c = few-bits c
 returns-2 : tie.Need-returns-2
 returns-2 c =
     let k = c .before in
-    let t = passed (k .before .before .before) in
+    let t = tests k in
     let high = rw (shifted-one _ (few-bits k), found k) at (c .if2 .taken) in
     sym (rank-answer _ _ _ 11 (rank-last _ _ _ (t .allowed) (t .eight) (t .below) ∙ given _ 11 _ (le-leb _ _ high)))
 
 returns-3 : tie.Need-returns-3
 returns-3 c =
     let k = c .before in
-    let t = passed (k .before .before .before) in
+    let t = tests k in
     let low = rw (shifted-one _ (few-bits k), found k) at (c .if2 .left) in
     ap (λ (n : ℕ). record { refusal = 0; number = n }) (found k)
     ∙ sym (rank-answer _ _ _ 0 (rank-accepts _ _ _ (record { allowed = t .allowed; eight = t .eight; below = t .below; low = low })))

@@ -15,34 +15,34 @@ mul-top : tie.Need-mul-top
 mul-top c = search needs
 
 locate-weight-requires : tie.Need-locate-weight-requires
-locate-weight-requires c κs =
-    ascending _ _ _ (c .before .before .before .pre .0) (c .locate-weight-arg2 .given .0)
+locate-weight-requires c κs = ascending _ _ _ _ (c .before .pre .0) (c .locate-weight-arg .given .0)
 
 -- what is known once the weight is located
 found :
     (k : tie.After-locate-weight)
     → let x = k .locate-weight .result in
-    let a = k .before .before .before .before in
-    (x .at ≡ weight (a .args .t1 .m) (a .args .s) (a .pre .1)) × (x .rest ≡ rest (a .args .t1 .m) (a .args .s) (a .pre .1))
+    let s = k .before .before in
+    (x .at ≡ weight (s .args .m) (s .args .s) (s .pre .1)) × (x .rest ≡ rest (s .args .m) (s .args .s) (s .pre .1))
 found k =
-    let a = k .before .before .before .before in
-    weighed (a .args .t1 .m) (a .args .s) (a .pre .1) (a .args .t1) _ (a .pre .0) (k .locate-weight .ensures)
+    let s = k .before .before in
+    weighed (s .args .m) (s .args .s) (s .pre .1) (s .args .fours .now) (s .args .lighter .now) _ (s .pre .0) (k .locate-weight .ensures)
 
 locate-requires : tie.Need-locate-requires
 locate-requires c κs =
-    let k = c .before .before .before in
-    let a = k .before .before .before .before in
-    locatable8 _ _ (a .pre .1) (a .args .t1) _ (a .pre .0) (found k) (c .locate-arg2 .given .0)
+    let k = c .before in
+    let s = k .before .before in
+    locatable8 _ _ (s .pre .1) (s .args .fours .now) (s .args .lighter .now) _ (s .pre .0) (found k) (c .locate-arg .given .0)
 
 -- what is known once both are
 parts :
     (k : tie.After-locate)
-    → let a = k .before .before .before .before .before .before .before .before in
-    Split8 (a .args .t1 .m) (a .args .s) (a .pre .1) (k .before .before .before .before .locate-weight .result) (k .locate .result) (at (a .args .t1 .fours) (k .locate .result .at))
+    → let w = k .before .before in
+    let s = w .before .before in
+    Split8 (s .args .m) (s .args .s) (s .pre .1) (w .locate-weight .result) (k .locate .result) (at (s .args .fours .now) (k .locate .result .at))
 parts k =
-    let w = k .before .before .before .before in
-    let a = w .before .before .before .before in
-    split8 _ _ (a .pre .1) (at (a .args .t1 .fours)) _ _ (a .pre .0 .known) (a .pre .0 .fours) (found w) (k .locate .ensures)
+    let w = k .before .before in
+    let s = w .before .before in
+    split8 _ _ (s .pre .1) (at (s .args .fours .now)) _ _ (s .pre .0 .known) (s .pre .0 .fours) (found w) (k .locate .ensures)
 
 mul-first-fours : tie.Need-mul-first-fours
 mul-first-fours c = omega (arith, parts c .inside)
@@ -50,11 +50,11 @@ mul-first-fours c = omega (arith, parts c .inside)
 element-copy-out-first-fours : tie.Need-element-copy-out-first-fours
 element-copy-out-first-fours c = parts c .inside
 
-rem-t9 : tie.Need-rem-t9
-rem-t9 c = parts (c .before .before) .some
+rem-t18 : tie.Need-rem-t18
+rem-t18 c = parts (c .before .before) .some
 
-div-t18 : tie.Need-div-t18
-div-t18 c = parts (c .before .before .before) .some
+div-t19 : tie.Need-div-t19
+div-t19 c = parts (c .before .before .before) .some
 
 returns : tie.Need-returns
 returns c = parts (c .before .before .before) .whole
@@ -69,6 +69,6 @@ halves-of-spec =
     locate-requires
     mul-first-fours
     element-copy-out-first-fours
-    rem-t9
-    div-t18
+    rem-t18
+    div-t19
     returns)

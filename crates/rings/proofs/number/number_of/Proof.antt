@@ -41,7 +41,7 @@ four-from-requires-2 c κs = search needs
 eight :
     (k : tie.After-four-from2)
     → let f = k .before .before .before .before .before in
-    _≡_ {A = Eight} (fourOf (f .four-from .result), fourOf (k .four-from2 .result)) (ofList (f .before .before .before .before .before .args .t2 .ring))
+    _≡_ {A = Eight} (fourOf (f .four-from .result), fourOf (k .four-from2 .result)) (ofList (f .before .before .before .before .before .args .t5 .ring))
 unfolding ofList
 eight k =
     let f = k .before .before .before .before .before in
@@ -50,7 +50,7 @@ eight k =
 number-of-fours-requires : tie.Need-number-of-fours-requires
 number-of-fours-requires c κs =
     let a = c .before .before .before .before .before .before .before .before .before .before in
-    (a .pre .0, subst (Below8 (a .args .c .m)) (sym (eight c)) (a .pre .1))
+    (a .pre .0, subst (Below8 (a .args .m)) (sym (eight c)) (a .pre .1))
 
 returns : tie.Need-returns
 returns c = c .number-of-fours .ensures ∙ ap (number _) (eight (c .before))

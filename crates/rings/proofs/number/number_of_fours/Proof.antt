@@ -35,39 +35,39 @@ element-copy-out-result c = search needs
 
 lighter-sum-requires : tie.Need-lighter-sum-requires
 lighter-sum-requires c κs =
-    let w = c .before .before .before .before .before .before .before .before .before .before in
-    let a = w .before .before in
+    let w = c .before .before .before .before in
+    let s = w .before .before in
     rw (w .weight-of-four2 .ensures, w .before .weight-of-four .ensures)
-    (summable8 _ (a .args .t1) (fourOf (a .args .front), fourOf (a .args .back)) (a .pre .0) (a .pre .1) (c .lighter-sum-arg2 .given .0))
+    (summable8 _ _ _ (fourOf (s .args .front), fourOf (s .args .back)) (s .pre .0 .eights) (s .pre .1) (c .lighter-sum-arg .given .0))
 
 -- the parts add up to the number, which is small
 whole :
     (k : tie.After-lighter-sum)
-    → let p = k .before .before .before .before .before in
-    let w = p .before .before .before .before .before .before in
-    let a = w .before .before in
+    → let p = k .before .before .before in
+    let w = p .before .before in
+    let a = w .before .before .args in
     let b = w .before .weight-of-four .result in
-    at (a .args .t1 .lighter) (b + w .weight-of-four2 .result)
-    + (k .lighter-sum .result + (p .place-of-four2 .result * at (a .args .t1 .fours) b + p .before .before .before .place-of-four .result))
-    ≡ number (a .args .t1 .m) (fourOf (a .args .front), fourOf (a .args .back))
+    at (a .lighter .now) (b + w .weight-of-four2 .result)
+    + (k .lighter-sum .result + (p .place-of-four2 .result * at (a .fours .now) b + p .before .place-of-four .result))
+    ≡ number (a .m) (fourOf (a .front), fourOf (a .back))
 whole k =
-    let p = k .before .before .before .before .before in
-    let w = p .before .before .before .before .before .before in
-    let a = w .before .before in
-    number-whole _ (a .args .t1) (fourOf (a .args .front), fourOf (a .args .back)) (a .pre .0) (a .pre .1) _ _ _ _ _
+    let p = k .before .before .before in
+    let w = p .before .before in
+    let s = w .before .before in
+    number-whole _ _ _ (fourOf (s .args .front), fourOf (s .args .back)) (s .pre .0 .eights) (s .pre .1) _ _ _ _ _
     (w .before .weight-of-four .ensures)
     (w .weight-of-four2 .ensures)
     (k .lighter-sum .ensures)
-    (p .before .before .before .place-of-four .ensures)
+    (p .before .place-of-four .ensures)
     (p .place-of-four2 .ensures)
 
 small :
     (k : tie.After-lighter-sum)
-    → let a = k .before .before .before .before .before .before .before .before .before .before .before .before .before in
-    number (a .args .t1 .m) (fourOf (a .args .front), fourOf (a .args .back)) < 11019960576
+    → let a = k .before .before .before .before .before .before .before .args in
+    number (a .m) (fourOf (a .front), fourOf (a .back)) < 11019960576
 small k =
-    let a = k .before .before .before .before .before .before .before .before .before .before .before .before .before in
-    number-fits _ (a .args .t1) (fourOf (a .args .front), fourOf (a .args .back)) (a .pre .0) (a .pre .1)
+    let s = k .before .before .before .before .before .before .before in
+    number-fits _ _ _ (fourOf (s .args .front), fourOf (s .args .back)) (s .pre .0 .eights) (s .pre .1)
 
 mul-result-2 : tie.Need-mul-result-2
 mul-result-2 c = search needs

@@ -12,79 +12,78 @@ use Rattle.rings.proofs.number.rings_of.Statement.{statement}
 use Rattle.rings.proofs.number.rings_of.Tie as tie
 
 halves-of-requires : tie.Need-halves-of-requires
-halves-of-requires c = search needs
+halves-of-requires c κs = (c .pre .0 .eights, c .pre .1)
 
 -- what is known of the halves
 known :
     (k : tie.After-halves-of)
-    → let a = k .before in
-    Halfway (a .args .t1 .m) (a .args .s) (a .pre .1) (k .halves-of .result)
+    → let s = k .before in
+    Halfway (s .args .m) (s .args .s) (s .pre .1) (k .halves-of .result)
 known k =
-    let a = k .before in
-    subst (Halfway (a .args .t1 .m) (a .args .s) (a .pre .1)) (sym (k .halves-of .ensures)) (halfway _ _ (a .pre .1))
+    let s = k .before in
+    subst (Halfway (s .args .m) (s .args .s) (s .pre .1)) (sym (k .halves-of .ensures)) (halfway _ _ (s .pre .1))
 
 four-at-requires : tie.Need-four-at-requires
 four-at-requires c κs =
-    let k = c .before .before in
-    let counts = k .before .pre .0 in
-    let h = known k in
-    (counts .known, (counts .pairs, (four-weight _ _ _ (counts .known) (h .first), h .first)))
+    let rows = c .before .pre .0 in
+    let h = known c in
+    (rows .eights .known, (rows .pairs, (four-weight _ _ _ (rows .eights .known) (h .first), h .first)))
 
 sub-four-at : tie.Need-sub-four-at
-sub-four-at c = known (c .before .before .before .before .before .before) .within
+sub-four-at c = known (c .before .before) .within
 
 four-at-requires-2 : tie.Need-four-at-requires-2
 four-at-requires-2 c κs =
-    let k = c .before .before .before .before .before .before in
-    let counts = k .before .pre .0 in
+    let k = c .before .before in
+    let rows = k .before .pre .0 in
     let h = known k in
-    (counts .known, (counts .pairs, (four-weight _ _ _ (counts .known) (h .second), h .second)))
+    (rows .eights .known, (rows .pairs, (four-weight _ _ _ (rows .eights .known) (h .second), h .second)))
 
 -- the two fours are the eight rings
 eight :
     (k : tie.After-four-at2)
-    → let f = k .before .before .before .before in
-    let a = f .before .before .before .before in
-    _≡_ {A = Eight} (fourOf (f .four-at .result), fourOf (k .four-at2 .result)) (ringsOf (a .args .t1 .m) (a .args .s))
+    → let f = k .before .before in
+    let a = f .before .before .args in
+    _≡_ {A = Eight} (fourOf (f .four-at .result), fourOf (k .four-at2 .result)) (ringsOf (a .m) (a .s))
 eight k =
-    let f = k .before .before .before .before in
-    let h = known (f .before .before .before) in
+    let f = k .before .before in
+    let h = known (f .before) in
     ap₂ (λ x y. (x, y)) (f .four-at .ensures) (k .four-at2 .ensures) ∙ sym (h .whole)
 
 -- and below M
 small :
     (k : tie.After-four-at2)
-    → let f = k .before .before .before .before in
+    → let f = k .before .before in
     Below8 18 (fourOf (f .four-at .result), fourOf (k .four-at2 .result))
 small k =
-    let a = k .before .before .before .before .before .before .before .before in
-    let b = subst (Below8 (a .args .t1 .m)) (sym (eight k)) (rings-below _ _ (a .pre .1)) in
-    let high = a .pre .0 .known .high in
+    let s = k .before .before .before .before in
+    let b = subst (Below8 (s .args .m)) (sym (eight k)) (rings-below _ _ (s .pre .1)) in
+    let high = s .pre .0 .eights .known .high in
     omega arith
 
+cast-t10 : tie.Need-cast-t10
+cast-t10 c = omega (arith, small (c .before) .0 .0 .0)
+
+cast-t11 : tie.Need-cast-t11
+cast-t11 c = omega (arith, small (c .before .before) .0 .0 .1)
+
 cast-t12 : tie.Need-cast-t12
-cast-t12 c = omega (arith, small (c .before) .0 .0 .0)
+cast-t12 c = omega (arith, small (c .before .before .before) .0 .1 .0)
 
 cast-t13 : tie.Need-cast-t13
-cast-t13 c = omega (arith, small (c .before .before) .0 .0 .1)
+cast-t13 c = omega (arith, small (c .before .before .before .before) .0 .1 .1)
 
 cast-t14 : tie.Need-cast-t14
-cast-t14 c = omega (arith, small (c .before .before .before) .0 .1 .0)
+cast-t14 c = omega (arith, small (c .before .before .before .before .before) .1 .0 .0)
 
 cast-t15 : tie.Need-cast-t15
-cast-t15 c = omega (arith, small (c .before .before .before .before) .0 .1 .1)
+cast-t15 c = omega (arith, small (c .before .before .before .before .before .before) .1 .0 .1)
 
 cast-t16 : tie.Need-cast-t16
-cast-t16 c = omega (arith, small (c .before .before .before .before .before) .1 .0 .0)
+cast-t16 c = omega (arith, small (c .before .before .before .before .before .before .before) .1 .1 .0)
 
 cast-t17 : tie.Need-cast-t17
-cast-t17 c = omega (arith, small (c .before .before .before .before .before .before) .1 .0 .1)
-
-cast-t18 : tie.Need-cast-t18
-cast-t18 c = omega (arith, small (c .before .before .before .before .before .before .before) .1 .1 .0)
-
-cast-t19 : tie.Need-cast-t19
-cast-t19 c = omega (arith, small (c .before .before .before .before .before .before .before .before) .1 .1 .1)
+cast-t17 c = omega (arith, small (c .before .before .before .before .before .before .before .before) .1 .1 .1)
 
 returns : tie.Need-returns
 returns c = ap asList (eight (c .before .before .before .before .before .before .before .before))
@@ -97,12 +96,12 @@ rings-of-spec =
     four-at-requires
     sub-four-at
     four-at-requires-2
+    cast-t10
+    cast-t11
     cast-t12
     cast-t13
     cast-t14
     cast-t15
     cast-t16
     cast-t17
-    cast-t18
-    cast-t19
     returns)
