@@ -3,10 +3,11 @@
 #     make run     the main job: proves the library for C and runs the program of README.md over it, on a shunt plan; also proves
 #                  and runs the programs `cases` and `settings`
 #     make test    the whole test, which is the gate: tools/test has its steps
+#     make bench   the library against plain C, in instructions, time and bytes: docs/BENCHMARK.md. It is no part of the gate
 #
 # Started from another folder, `make -C` prints a line of its own behind the last one. --no-print-directory leaves it out.
 
-.PHONY: run test setup
+.PHONY: run test bench setup
 
 run: setup
 	@rt check cases settings
@@ -21,6 +22,9 @@ run: setup
 
 test: setup
 	@tools/test
+
+bench: setup
+	@tools/bench
 
 # Installs what is missing. It does nothing where all is there.
 setup:
