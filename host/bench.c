@@ -24,9 +24,9 @@ const struct side bench_sides[SIDES] = {
 #define RINGS(k, m) \
     {"map", "K " #k ", M " #m, rings_draw, rings_map, rings_agree, {k, m, 0, 0, 0}}, \
     {"rank", "K " #k ", M " #m, rings_draw, rings_rank, rings_agree, {k, m, 0, 0, 0}}
-#define FRAMES(input, s, n, shaping) \
-    {"write", input, frames_draw, frames_write, frames_agree, {0, s, n, shaping, 1}}, \
-    {"read", input, frames_draw, frames_read, frames_agree, {0, s, n, shaping, 1}}
+#define FRAMES(input, role, s, n, shaping) \
+    {"write", input, frames_draw, frames_write, frames_agree, {role, s, n, shaping, 1}}, \
+    {"read", input, frames_draw, frames_read, frames_agree, {role, s, n, shaping, 1}}
 
 static const struct row rows[] = {
     RINGS(31, 18),
@@ -34,10 +34,11 @@ static const struct row rows[] = {
     RINGS(28, 14),
     RINGS(24, 8),
     RINGS(8, 2),
-    FRAMES("s5 n14 expanded", 5, 14, 1),
-    FRAMES("s4 n12 minimum", 4, 12, 0),
-    FRAMES("s3 n6 minimum", 3, 6, 0),
-    FRAMES("s0 n1 minimum", 0, 1, 0),
+    FRAMES("s5 n14 expanded", 0, 5, 14, 1),
+    FRAMES("s5 n14 expanded, role 1", 1, 5, 14, 1), /* its nearer tap is 5 back and not 18: less can be done at once */
+    FRAMES("s4 n12 minimum", 0, 4, 12, 0),
+    FRAMES("s3 n6 minimum", 0, 3, 6, 0),
+    FRAMES("s0 n1 minimum", 0, 0, 1, 0), /* no S, so little to do: what a call costs at least */
 };
 
 /*
@@ -64,7 +65,7 @@ static int take_time(const struct row *row)
     double nanoseconds[SIDES];
     int good = bench_time(row, nanoseconds);
     if (good) {
-        printf("%s|%s|%.0f|%.0f\n", row->call, row->input, nanoseconds[LIBRARY], nanoseconds[PLAIN]);
+        printf("%s|%s|%.1f|%.1f\n", row->call, row->input, nanoseconds[LIBRARY], nanoseconds[PLAIN]);
     }
     return good;
 }
