@@ -17,8 +17,6 @@ use Rattle.laws.proofs.Emits.{Filling, filling-none, filling-more, filling-whol
 use Rattle.line.specs.Switching.{isHigh, counterAfter, frameBits, frameLengths, total}
 use Rattle.line.specs.declared.settings.Settings.{Settings}
 use Rattle.line.proofs.Soundness.{Sound}
-use Rattle.rings.specs.Counts.{CountsOf}
-use Rattle.rings.specs.declared.counts.Counts.{Counts}
 use Rattle.frame.specs.Shape.{lengthOf}
 use Rattle.frame.specs.Writing.{Writing, symbolLabels, afterSymbol, frameLabels, frameTurned}
 use Rattle.frame.specs.declared.shape.Shape.{Shape}
@@ -141,14 +139,13 @@ module _ {c : Settings} {m₀ : Moved} {bits out : List ℕ} {moved : Moved} {co
 
       -- and can be sent
       pub sendable :
-          (counts : Counts) (part : List ℕ) → Sound c → CountsOf (ringCount c) counts → Bits bits → length part ≡ 16
-          → FrameSendable counts shape moved (take f (drop at bits)) part
-      sendable counts part sound known binary sixteen =
+          (m : ℕ) (part : List ℕ) → Sound c → m ≡ ringCount c → Bits bits → length part ≡ 16
+          → FrameSendable m shape moved (take f (drop at bits)) part
+      sendable m part sound is-m binary sixteen =
           let fits : ShapeFits c (isHigh (c .frames) (c .step) counter) shape = rw is-shape (next-fits c sound counter) in
           record {
-            known = subst (λ (m : ℕ). CountsOf m counts) (sym (known .of)) known;
             few = fits .few;
-            room = rw (known .of) (fits .room);
+            room = rw is-m (fits .room);
             threes = fits .threes;
             uncoded = fits .uncoded;
             held = h .held;

@@ -8,17 +8,14 @@ use Rattle.laws.specs.Digits.{Bits}
 use Rattle.frame.specs.Shape.{frameLength}
 use Rattle.frame.specs.Writing.{frameLabels, frameTurned}
 use Rattle.frame.specs.declared.shape.Shape.{Shape}
-use Rattle.rings.specs.Counts.{CountsOf}
-use Rattle.rings.specs.declared.counts.Counts.{Counts}
 use Rattle.scrambler.specs.Scrambler.{scramble, pushAll}
 use Rattle.coder.specs.declared.states.Moved.{Moved}
 
--- the counts are those of their M, the shape is within its limits and S has room, the register and Z are fit, the bits are bits and as
--- many as the frame has, and sixteen labels are lent
-pub record FrameSendable (counts : Counts) (shape : Shape) (moved : Moved) (bits out : List ℕ) : Type 0 where
-  pub known : CountsOf (counts .m) counts
+-- the shape is within its limits and S has room, the register and Z are fit, the bits are bits and as many as the frame has, and sixteen
+-- labels are lent
+pub record FrameSendable (M : ℕ) (shape : Shape) (moved : Moved) (bits out : List ℕ) : Type 0 where
   pub few : shape .shell ≤ 31
-  pub room : 2 ^ shape .shell ≤ counts .m ^ 8
+  pub room : 2 ^ shape .shell ≤ M ^ 8
   pub threes : shape .threes ≤ 4
   pub uncoded : shape .uncoded ≤ 5
   pub held : moved .register < 2 ^ 23

@@ -4,6 +4,7 @@ ghost use Prim.Native.Nat.{_≤_};
 ghost use lib.ListN.{length};
 ghost use Rattle.frame.specs.Shape.{lengthOf};
 ghost use Rattle.line.specs.declared.settings.Worked.the-variants.{Accepted};
+ghost use Rattle.rings.specs.Counts.{Rows};
 ghost use Rattle.coder.specs.Answers.{WriteAnswer, Sendable, allBits, exact, movedOn, writeRefusal};
 ghost use Rattle.coder.specs.Frames.{FrameSendable, FrameSent};
 ghost use Rattle.coder.specs.Sending.{dataLabels, dataRegister, dataTurned};
@@ -20,7 +21,6 @@ use line::next_frame;
 use line::refusal_of;
 use line::rings_of_shaping;
 use line::work_out;
-use rings::Counts;
 use rings::counts_of;
 use scrambler::scramble_part;
 
@@ -84,21 +84,34 @@ fn blank() -> [u8; 80]
     [0; 80]
 }
 
-// One mapping frame: its bits are scrambled, and its labels go straight into the part that is lent.
-fn send_frame(
-    counts: Counts,
+// One mapping frame: its bits are scrambled, and its labels go straight into the part that is lent. The rows are those of the counts of m.
+fn send_frame<'a>(
+    m: u64,
+    pairs: &'a [u64; 69],
+    fours: &'a [u64; 137],
+    lighter: &'a [u64; 137],
     shape: Shape,
     role: u64,
     moved: Moved,
     bits: &[u8],
     out: &mut [u16],
 ) -> Moved
-    requires { ⌜ FrameSendable counts shape moved (now bits) (now out) ⌝ }
-    ensures { λ r. ⌜ FrameSent (counts .m) shape role moved (now (bits .entry)) r (now (out .exit)) ⌝ }
+    requires { ⌜ Rows m (now pairs) (now fours) (now lighter) ⌝ }
+    requires { ⌜ FrameSendable m shape moved (now bits) (now out) ⌝ }
+    ensures { λ r. ⌜ FrameSent m shape role moved (now (bits .entry)) r (now (out .exit)) ⌝ }
 {
     let mut space = blank();
     let register = scramble_part(role, moved.register, bits, &mut space);
-    let z = write_frame(counts, shape, moved.z, &space[..bits.len()], out);
+    let z = write_frame(
+        m,
+        pairs,
+        fours,
+        lighter,
+        shape,
+        moved.z,
+        &space[..bits.len()],
+        out,
+    );
     Moved { register, z }
 }
 
@@ -123,7 +136,10 @@ fn send(st: State, c: Settings, bits: &[u8], out: &mut [u16]) -> Moved
         let f = frame_length(c, turn.high);
         let shape = shape_of(c, turn.high);
         moved = send_frame(
-            counts,
+            counts.m,
+            &counts.pairs,
+            &counts.fours,
+            &counts.lighter,
             shape,
             c.role,
             moved,

@@ -15,8 +15,6 @@ use Rattle.listing.specs.Number.{ringsOf}
 use Rattle.listing.specs.Sets.{asList}
 use Rattle.frame.specs.declared.shape.Shape.{Shape}
 use Rattle.frame.specs.declared.symbol.Symbol.{Symbol}
-use Rattle.rings.specs.Counts.{CountsOf}
-use Rattle.rings.specs.declared.counts.Counts.{Counts}
 use Rattle.frame.specs.Shape.{symbolLength, frameLength}
 
 -- a 4D symbol out of the bits at the head of a list; `three` says whether it carries I3
@@ -81,12 +79,11 @@ frameLabels M shape z bits = emit (symbolLabels (shape .uncoded)) (afterSymbol (
 unfoldable pub frameTurned : ℕ → Shape → ℕ → List ℕ → ℕ
 frameTurned M shape z bits = iter (afterSymbol (shape .uncoded)) 4 (frameStart M shape z bits) .z
 
--- what has to hold where a frame is written: the counts are those of their M, S has room among the M^8 sets, the bits are bits and as
--- many as the frame has, and sixteen labels are lent
-pub record Writable (c : Counts) (shape : Shape) (z : ℕ) (bits out : List ℕ) : Type 0 where
-  pub counts : CountsOf (c .m) c
+-- what has to hold where a frame is written: S has room among the M^8 sets, the bits are bits and as many as the frame has, and sixteen
+-- labels are lent
+pub record Writable (M : ℕ) (shape : Shape) (z : ℕ) (bits out : List ℕ) : Type 0 where
   pub few : shape .shell ≤ 31
-  pub room : 2 ^ shape .shell ≤ c .m ^ 8
+  pub room : 2 ^ shape .shell ≤ M ^ 8
   pub threes : shape .threes ≤ 4
   pub uncoded : shape .uncoded ≤ 5
   pub turn : z ≤ 3

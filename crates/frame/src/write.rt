@@ -3,6 +3,7 @@ ghost use mathlib.Core.List.{[], _∷_, _++_};
 ghost use mathlib.Core.Path.{_≡_};
 ghost use Prim.Native.Nat.{_+_, _*_, _^_, _≤_, _<_};
 ghost use lib.ListN.{length, take, drop};
+ghost use Rattle.rings.specs.Counts.{Rows};
 ghost use Rattle.frame.specs.Writing.{frameLabels, frameTurned, Writable};
 use crate::bits::value_at;
 use crate::shape::Shape;
@@ -10,7 +11,6 @@ use crate::symbol::Symbol;
 use crate::symbol::lead;
 use crate::symbol::symbol_at;
 use crate::symbol::turn;
-use rings::Counts;
 use rings::rings_of;
 
 // The label of a ring and q bits.
@@ -32,14 +32,24 @@ fn put_four(out: &mut [u16], at: usize, a: u16, b: u16, c: u16, d: u16)
     out[at + 3] = d;
 }
 
-// The sixteen labels of a frame, into the part of the output that is lent. It answers Z after the frame.
-pub fn write_frame(c: Counts, shape: Shape, z: u64, bits: &[u8], out: &mut [u16]) -> u64
-    requires { ⌜ Writable c shape z (now bits) (now out) ⌝ }
-    ensures { λ r. ⌜ (now (out .exit) ≡ frameLabels (c .m) shape z (now (bits .entry))) × (r ≡ frameTurned (c .m) shape z (now (bits .entry))) ⌝ }
+// The sixteen labels of a frame, into the part of the output that is lent, over the rows of the counts of m. It answers Z after the frame.
+pub fn write_frame<'a>(
+    m: u64,
+    pairs: &'a [u64; 69],
+    fours: &'a [u64; 137],
+    lighter: &'a [u64; 137],
+    shape: Shape,
+    z: u64,
+    bits: &[u8],
+    out: &mut [u16],
+) -> u64
+    requires { ⌜ Rows m (now pairs) (now fours) (now lighter) ⌝ }
+    requires { ⌜ Writable m shape z (now bits) (now out) ⌝ }
+    ensures { λ r. ⌜ (now (out .exit) ≡ frameLabels m shape z (now (bits .entry))) × (r ≡ frameTurned m shape z (now (bits .entry))) ⌝ }
 {
     let q = shape.uncoded;
     let s = value_at(bits, 0, shape.shell);
-    let rings = rings_of(c.m, &c.pairs, &c.fours, &c.lighter, s);
+    let rings = rings_of(m, pairs, fours, lighter, s);
     let ring = rings.ring;
     let mut at = shape.shell;
     let mut turned = z;

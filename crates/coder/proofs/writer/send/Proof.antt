@@ -101,8 +101,12 @@ labels-there k = omega (arith, sent-length (k .before .loop .inv), k .loop-test 
 labels-small : (k : tie.In-loop Inv-loop μ-loop) → 16 * k .before .loop .k + 16 ≤ 256
 labels-small k = omega (arith, k .loop-test .taken, sound (start-of (k .before)) .frames-most)
 
+-- the frame's shape, before the rows are lent
+abbrev shaped-of : tie.After-send-frame-arg3 Inv-loop μ-loop → tie.After-shape-of Inv-loop μ-loop
+shaped-of k = k .before .before .before .before
+
 add-send-frame : tie.Need-add-send-frame Inv-loop μ-loop
-add-send-frame c = omega (arith, small c)
+add-send-frame c = omega (arith, small (shaped-of c))
 
 sub-send-frame : tie.Need-sub-send-frame Inv-loop μ-loop
 sub-send-frame c = omega arith
@@ -111,19 +115,19 @@ part-send-frame-start : tie.Need-part-send-frame-start Inv-loop μ-loop
 part-send-frame-start c = omega arith
 
 part-send-frame-end : tie.Need-part-send-frame-end Inv-loop μ-loop
-part-send-frame-end c = there c
+part-send-frame-end c = there (shaped-of c)
 
 mul-send-frame : tie.Need-mul-send-frame Inv-loop μ-loop
-mul-send-frame c = omega (arith, labels-small (c .before .before .before .before))
+mul-send-frame c = omega (arith, labels-small (shaped-of (c .before) .before .before .before))
 
 mul-send-frame-2 : tie.Need-mul-send-frame-2 Inv-loop μ-loop
-mul-send-frame-2 c = omega (arith, labels-small (c .before .before .before .before))
+mul-send-frame-2 c = omega (arith, labels-small (shaped-of (c .before) .before .before .before))
 
 add-send-frame-2 : tie.Need-add-send-frame-2 Inv-loop μ-loop
-add-send-frame-2 c = omega (arith, labels-small (c .before .before .before .before))
+add-send-frame-2 c = omega (arith, labels-small (shaped-of (c .before) .before .before .before))
 
 mul-send-frame-3 : tie.Need-mul-send-frame-3 Inv-loop μ-loop
-mul-send-frame-3 c = omega (arith, labels-small (c .before .before .before .before))
+mul-send-frame-3 c = omega (arith, labels-small (shaped-of (c .before) .before .before .before))
 
 sub-send-frame-2 : tie.Need-sub-send-frame-2 Inv-loop μ-loop
 sub-send-frame-2 c = omega arith
@@ -132,7 +136,7 @@ part-send-frame-start-2 : tie.Need-part-send-frame-start-2 Inv-loop μ-loop
 part-send-frame-start-2 c = omega arith
 
 part-send-frame-end-2 : tie.Need-part-send-frame-end-2 Inv-loop μ-loop
-part-send-frame-end-2 c = labels-there (c .before .before .before .before)
+part-send-frame-end-2 c = labels-there (shaped-of (c .before) .before .before .before)
 
 -- from a to a + n there are n
 width : (a n : ℕ) → a + n - a ≡ n
@@ -140,20 +144,24 @@ width a n = omega arith
 
 send-frame-requires : tie.Need-send-frame-requires Inv-loop μ-loop
 send-frame-requires c κs =
-    let k = c .before .before in
+    let k = shaped-of (c .before .before) in
     let i = k .before .before .before in
     let l = i .before in
     let s = start-of l in
-    let lent = mid-len (16 * l .loop .k) (16 * l .loop .k + 16) (l .loop .out) (labels-there i) ∙ width (16 * l .loop .k) 16 in
-    rw (width (l .loop .at) (k .before .frame-length .result))
-    (sendable (l .loop .inv) (i .loop-test .taken) (k .before .frame-length .result) (k .shape-of .result) (is-length (k .before)) (is-shape k)
-    (l .before .counts-of .result) _ (sound s) (counted (l .before)) (s .pre .binary) lent)
+    let is-m = counted (l .before) .of in
+    let rows = counted (l .before) .rows in
+    let lent = mid-len (16 * l .loop .k) (16 * l .loop .k + 16) (l .loop .out) (labels-there i) ∙ width (16 * l .loop .k) 16 in (
+      rw is-m rows,
+      rw (width (l .loop .at) (k .before .frame-length .result))
+          (sendable (l .loop .inv) (i .loop-test .taken) (k .before .frame-length .result) (k .shape-of .result) (is-length (k .before)) (is-shape k)
+          (l .before .counts-of .result .m) _ (sound s) is-m (s .pre .binary) lent),
+    )
 
 add-at : tie.Need-add-at Inv-loop μ-loop
-add-at c = omega (arith, small (c .before .before .before .before .before))
+add-at c = omega (arith, small (shaped-of (c .before .before .before .before .before)))
 
 add-k : tie.Need-add-k Inv-loop μ-loop
-add-k c = omega (arith, labels-small (c .before .before .before .before .before .before .before .before))
+add-k c = omega (arith, labels-small (shaped-of (c .before .before .before .before .before) .before .before .before))
 
 loop-less : tie.Need-loop-less Inv-loop μ-loop
 loop-less c = omega arith
@@ -161,16 +169,16 @@ loop-less c = omega arith
 loop-again : tie.Need-loop-again Inv-loop μ-loop
 loop-again c =
     let r = c .before .before .send-frame in
-    let k = c .before .before .before .before .before in
+    let k = shaped-of (c .before .before .before .before .before) in
     let i = k .before .before .before in
     let l = i .before in
     let f = k .before .frame-length .result in
     let sent = rw (width (l .loop .at) f) at (r .ensures) in
     let sixteen = sent-sixteen (r .ensures) in
     sent-more (l .loop .inv) (i .loop-test .taken) f (k .shape-of .result) (is-length (k .before)) (is-shape k)
-    (l .before .counts-of .result .m) (counted (l .before) .of) (r .result) (r .last .1 .1 .1 .1 .1 .0) sent
+    (l .before .counts-of .result .m) (counted (l .before) .of) (r .result) (r .last .1 .1 .1 .1 .1 .1 .1 .1 .0) sent
     _ _ _ (sound (start-of l)) (k .before .before .next-frame .ensures .1) refl
-    (put-by-loan (16 * l .loop .k) (16 * l .loop .k + 16) (r .last .1 .1 .1 .1 .1 .0) (l .loop .out) (omega arith))
+    (put-by-loan (16 * l .loop .k) (16 * l .loop .k + 16) (r .last .1 .1 .1 .1 .1 .1 .1 .1 .0) (l .loop .out) (omega arith))
 
 same-length : tie.Need-same-length Inv-loop μ-loop
 same-length c = sent-length (c .before .loop .inv) ∙ sym (start-of (c .before) .pre .labels)

@@ -41,18 +41,20 @@ slice-aggregate-write-frame c = sym (front-length (c .before .before))
 write-frame-requires : tie.Need-write-frame-requires
 write-frame-requires c κs =
     let k = c .before .before .before in
-    let p = k .before .before .before .before .before .pre in
-    record {
-      counts = p .known;
-      few = p .few;
-      room = p .room;
-      threes = p .threes;
-      uncoded = p .uncoded;
-      turn = p .turn;
-      binary = rw (front k) (bits-scramble _ _ _);
-      size = front-length k ∙ p .size;
-      sixteen = p .sixteen;
-    }
+    let s = k .before .before .before .before .before in
+    let p = s .pre .1 in (
+      s .pre .0,
+      record {
+        few = p .few;
+        room = p .room;
+        threes = p .threes;
+        uncoded = p .uncoded;
+        turn = p .turn;
+        binary = rw (front k) (bits-scramble _ _ _);
+        size = front-length k ∙ p .size;
+        sixteen = p .sixteen;
+      },
+    )
 
 same-length : tie.Need-same-length
 same-length c = search needs

@@ -16,30 +16,28 @@ use Rattle.frame.proofs.write.write_frame.Statement.{statement}
 use Rattle.frame.proofs.write.write_frame.Tie as tie
 
 abbrev Inv-loop : tie.InvT-loop
-Inv-loop shape z bits out₀ q s ring at₀ turned₀ j₀ out at turned j = Halfway shape bits ring z out at turned j
+Inv-loop m pairs fours lighter shape z bits out₀ q s ring at₀ turned₀ j₀ out at turned j = Halfway shape bits ring z out at turned j
 
 abbrev μ-loop : tie.MeasureT-loop
-μ-loop shape z bits out₀ q s ring at₀ turned₀ j₀ out at turned j = 4 - j
+μ-loop m pairs fours lighter shape z bits out₀ q s ring at₀ turned₀ j₀ out at turned j = 4 - j
 
 value-at-requires : tie.Need-value-at-requires Inv-loop μ-loop
 unfolding frameLength
-value-at-requires c κs = let p = c .before .before .pre in (omega arith, p .few, p .binary)
+value-at-requires c κs = let p = c .before .before .pre .1 in (omega arith, p .few, p .binary)
 
 -- S has eight rings
 number-below :
-    (k : tie.After-value-at Inv-loop μ-loop) → k .value-at .result < k .before .before .before .args .t1 .m ^ 8
+    (k : tie.After-value-at Inv-loop μ-loop) → k .value-at .result < k .before .before .before .args .m ^ 8
 number-below k =
     let s = k .before .before .before in
-    omega (arith, k .value-at .ensures, value-take-below (s .args .shape .shell) (s .args .bits .now) (s .pre .binary), s .pre .room)
+    omega (arith, k .value-at .ensures, value-take-below (s .args .shape .shell) (s .args .bits .now) (s .pre .1 .binary), s .pre .1 .room)
 
 rings-of-requires : tie.Need-rings-of-requires Inv-loop μ-loop
-rings-of-requires c κs =
-    let k = c .before .before .before .before in
-    (k .before .before .before .pre .counts .rows, number-below k)
+rings-of-requires c κs = (c .before .before .before .pre .0, number-below c)
 
 -- the number whose rings they are
 abbrev valued : tie.After-rings-of Inv-loop μ-loop → tie.After-value-at Inv-loop μ-loop
-valued k = k .before .before .before .before .before
+valued k = k .before
 
 abbrev begun : tie.After-rings-of Inv-loop μ-loop → tie.Start Inv-loop μ-loop
 begun k = valued k .before .before .before
@@ -48,25 +46,25 @@ begun k = valued k .before .before .before
 ring-is :
     (k : tie.After-rings-of Inv-loop μ-loop)
     → let a = begun k .args in
-    k .rings-of .result .ring ≡ asList (ringsOf (a .t1 .m) (value (take (a .shape .shell) (a .bits .now))))
-ring-is k = k .rings-of .ensures ∙ ap (λ (s : ℕ). asList (ringsOf (begun k .args .t1 .m) s)) (valued k .value-at .ensures)
+    k .rings-of .result .ring ≡ asList (ringsOf (a .m) (value (take (a .shape .shell) (a .bits .now))))
+ring-is k = k .rings-of .ensures ∙ ap (λ (s : ℕ). asList (ringsOf (begun k .args .m) s)) (valued k .value-at .ensures)
 
 -- and none is large
 ring-below : (k : tie.After-rings-of Inv-loop μ-loop) (i : ℕ) → getD (k .rings-of .result .ring) i 0 < 18
 ring-below k i =
     let s = begun k in
-    ring-small (s .args .t1 .m) (valued k .value-at .result) _ (k .rings-of .ensures) (s .pre .counts .rows .eights .known .high) (number-below (valued k)) i
+    ring-small (s .args .m) (valued k .value-at .result) _ (k .rings-of .ensures) (s .pre .0 .eights .known .high) (number-below (valued k)) i
 
 loop-holds : tie.Need-loop-holds Inv-loop μ-loop
 loop-holds c =
     let s = begun (c .before) in
-    halfway-none (s .args .shape) (s .args .bits .now) _ (s .args .z) (s .args .out .now) (s .pre .turn) (s .pre .size) (s .pre .sixteen)
+    halfway-none (s .args .shape) (s .args .bits .now) _ (s .args .z) (s .args .out .now) (s .pre .1 .turn) (s .pre .1 .size) (s .pre .1 .sixteen)
 
 symbol-at-requires : tie.Need-symbol-at-requires Inv-loop μ-loop
 symbol-at-requires c κs =
     let k = c .before in
     let s = begun (k .before .before .before) in
-    (bits-there (k .before .loop .inv) (k .loop-test .taken), s .pre .uncoded, s .pre .binary)
+    (bits-there (k .before .loop .inv) (k .loop-test .taken), s .pre .1 .uncoded, s .pre .1 .binary)
 
 -- the numbers of the symbol are small
 small :
@@ -74,7 +72,7 @@ small :
     → Small (begun (k .before .before .before .before .before) .args .shape .uncoded) (k .symbol-at .result)
 small k =
     let s = begun (k .before .before .before .before .before) in
-    symbol-small _ _ (k .before .before .before .loop .at) (s .args .bits .now) _ (s .pre .binary) (k .symbol-at .ensures)
+    symbol-small _ _ (k .before .before .before .loop .at) (s .args .bits .now) _ (s .pre .1 .binary) (k .symbol-at .ensures)
 
 turn-requires : tie.Need-turn-requires Inv-loop μ-loop
 turn-requires c κs = let k = small c in (c .before .before .before .loop .inv .turn, k .i2, k .i3)
@@ -89,7 +87,7 @@ label-requires : tie.Need-label-requires Inv-loop μ-loop
 label-requires c κs =
     let k = c .before in
     let r = k .before .before .before .before .before in
-    (begun r .pre .uncoded, ring-below r _, small k .first)
+    (begun r .pre .1 .uncoded, ring-below r _, small k .first)
 
 mul-label-2 : tie.Need-mul-label-2 Inv-loop μ-loop
 mul-label-2 c = omega arith
@@ -104,7 +102,7 @@ label-requires-2 : tie.Need-label-requires-2 Inv-loop μ-loop
 label-requires-2 c κs =
     let k = c .before .before in
     let r = k .before .before .before .before .before in
-    (begun r .pre .uncoded, ring-below r _, small k .second)
+    (begun r .pre .1 .uncoded, ring-below r _, small k .second)
 
 mul-put-four : tie.Need-mul-put-four Inv-loop μ-loop
 mul-put-four c = omega arith
@@ -149,7 +147,7 @@ unfolding frameLength
 next-small k =
     let t = turn-of k in
     let s = start-of k in
-    let p = s .pre in
+    let p = s .pre .1 in
     omega
     (arith, next-at k, bits-there (t .before .loop .inv) (t .loop-test .taken), p .size, p .few, p .threes, p .uncoded)
 
@@ -180,13 +178,13 @@ loop-again c =
 same-length : tie.Need-same-length Inv-loop μ-loop
 same-length c =
     let s = begun (c .before .before .before) in
-    sixteen (c .before .loop .inv) ∙ sym (s .pre .sixteen)
+    sixteen (c .before .loop .inv) ∙ sym (s .pre .1 .sixteen)
 
 returns : tie.Need-returns Inv-loop μ-loop
 returns c =
     let k = c .before .before .before in
     let a = begun k .args in
-    halfway-all (c .before .loop .inv) (a .t1 .m) (c .loop-test .left) (ring-is k)
+    halfway-all (c .before .loop .inv) (a .m) (c .loop-test .left) (ring-is k)
 
 pub write-frame-spec : {M : Type 1} → statement M
 write-frame-spec =
