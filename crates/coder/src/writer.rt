@@ -24,18 +24,19 @@ use line::work_out;
 use rings::counts_of;
 use scrambler::scramble_part;
 
-// Every byte is 0 or 1.
+// Every byte is 0 or 1. The loop goes to the end whatever it finds: with one way out, it can be compiled to take many bytes at once.
 fn all_bits(bits: &[u8]) -> bool
     ensures { λ r. ⌜ r ≡ allBits (now (bits .entry)) ⌝ }
 {
+    let mut good = true;
     let mut i = 0;
     while i < bits.len() {
         if bits[i] > 1 {
-            return false;
+            good = false;
         }
         i += 1;
     }
-    true
+    good
 }
 
 // N bytes of bits and 16·P labels.

@@ -1,4 +1,7 @@
--- `coder::writer::all_bits` meets its contract: up to byte i all have passed, so the test of the rest is that of all. Assumes nothing.
+-- `coder::writer::all_bits` meets its contract: what the flag says of the bytes before i and the test of the rest are the test of all.
+-- Assumes nothing.
+use mathlib.Core.Bool.{_&&_, and-true, and-false}
+use mathlib.Core.Logic.{⊎-elim}
 use mathlib.Core.Path.{_≡_, refl, sym, _∙_}
 use Prim.Native.Nat.{_-_}
 use native.Mathlib.Omega.{arith}
@@ -9,10 +12,10 @@ use Rattle.coder.proofs.writer.all_bits.Statement.{statement}
 use Rattle.coder.proofs.writer.all_bits.Tie as tie
 
 abbrev Inv-loop : tie.InvT-loop
-Inv-loop bits i₀ i = allBits (drop i bits) ≡ allBits bits
+Inv-loop bits good₀ i₀ good i = (good && allBits (drop i bits)) ≡ allBits bits
 
 abbrev μ-loop : tie.MeasureT-loop
-μ-loop bits i₀ i = length bits - i
+μ-loop bits good₀ i₀ good i = length bits - i
 
 loop-holds : tie.Need-loop-holds Inv-loop μ-loop
 loop-holds c = refl
@@ -20,24 +23,26 @@ loop-holds c = refl
 shared-slice-read-if1 : tie.Need-shared-slice-read-if1 Inv-loop μ-loop
 shared-slice-read-if1 c = omega arith
 
-returns : tie.Need-returns Inv-loop μ-loop
-returns c =
-    let l = c .before .before in
-    sym (sym (l .before .loop .inv) ∙ bad-byte _ (l .before .loop .i) (l .loop-test .taken) (c .if1 .taken))
-
 add-i : tie.Need-add-i Inv-loop μ-loop
 add-i c = omega arith
 
 loop-less : tie.Need-loop-less Inv-loop μ-loop
 loop-less c = omega arith
 
+-- a byte above 1 lowers the flag, and another leaves it
 loop-again : tie.Need-loop-again Inv-loop μ-loop
 loop-again c =
-    let l = c .before .before in
-    good-byte _ (l .before .loop .i) (l .loop-test .taken) (c .if1 .left) ∙ l .before .loop .inv
+    let t = c .before .before in
+    let l = t .before .loop in
+    ⊎-elim
+    (λ w. rw (w .1) (sym (sym (l .inv) ∙ rw (bad-byte _ (l .i) (t .loop-test .taken) (w .0 .taken), and-false (l .good)))))
+    (λ w. rw (w .1, good-byte _ (l .i) (t .loop-test .taken) (w .0 .left)) (l .inv))
+    (c .if1 .came)
 
-returns-2 : tie.Need-returns-2 Inv-loop μ-loop
-returns-2 c = sym (sym (c .before .loop .inv) ∙ no-byte _ (c .before .loop .i) (c .loop-test .left))
+returns : tie.Need-returns Inv-loop μ-loop
+returns c =
+    let l = c .before .loop in
+    sym (sym (l .inv) ∙ rw (no-byte _ (l .i) (c .loop-test .left), and-true (l .good)))
 
 pub all-bits-spec : {M : Type 1} → statement M
 all-bits-spec =
@@ -47,8 +52,7 @@ all-bits-spec =
     μ-loop
     loop-holds
     shared-slice-read-if1
-    returns
     add-i
     loop-less
     loop-again
-    returns-2)
+    returns)
