@@ -16,22 +16,21 @@ use Rattle.laws.proofs.Emits.{Filling, filling-none, filling-more, filling-whol
 use Rattle.line.specs.declared.settings.Settings.{Settings}
 use Rattle.line.specs.Switching.{counterAfter, frameBits, frameLengths, total}
 use Rattle.line.proofs.Soundness.{Sound}
-use Rattle.rings.specs.Counts.{CountsOf}
-use Rattle.rings.specs.declared.counts.Counts.{Counts}
 use Rattle.frame.specs.declared.shape.Shape.{Shape}
 use Rattle.frame.specs.Shape.{frameLength}
-use Rattle.frame.specs.Reading.{inRange, numberFits, stepsFit, frameRead}
+use Rattle.frame.specs.Reading.{inRange, numberFits, stepsFit, bitsRead, frameRead}
 use Rattle.frame.proofs.Lengths.{ShapeFits, next-fits}
 use Rattle.frame.proofs.Accepted.{accepted}
 use Rattle.scrambler.specs.Scrambler.{descramble, pushAll}
 use Rattle.scrambler.proofs.Inverse.{length-descramble, pushAll-below}
 use Rattle.scrambler.proofs.Joins.{pushAll-append, descramble-append}
 use Rattle.coder.specs.declared.states.Moved.{Moved}
-use Rattle.coder.specs.Turns.{FrameReceivable, FrameReceived}
+use Rattle.coder.specs.Turns.{numberAt, FrameReceivable, FrameReceived}
 use Rattle.coder.specs.Sending.{ringCount, highNext, shapeNext}
 use Rattle.coder.specs.Receiving.{Receiving, nextBits, afterBits, receivingOf, dataReceived, dataBits, dataReadRegister, dataReadTurned, numbersFit, allStepsFit}
 use Rattle.coder.proofs.Ranges.{frame-ranges}
-use Rattle.coder.proofs.Passes.{counter-stays, sixteenAt, leftAt, sixteen-is, left-on, sixteen-length, shape-range, own-counts, turned-small}
+use Rattle.coder.proofs.Passes.{counter-stays, sixteenAt, leftAt, sixteen-is, left-on, sixteen-length, shape-range, turned-small}
+use Rattle.coder.proofs.Numbers.{number-is}
 
 -- what is left to read is the labels of k frames, which no test refuses
 pub record Told (c : Settings) (k : ℕ) (t : Receiving) : Type 0 where
@@ -185,39 +184,42 @@ module _ (c : Settings) (sound : Sound c) (labels : List ℕ) (z register k : �
 
   -- it can be received
   pub frame-receivable :
-      (counts : Counts) → CountsOf (ringCount c) counts → (shape : Shape) → shape ≡ shapeNext c counter
+      (shape : Shape) → shape ≡ shapeNext c counter → (number : ℕ) → number ≡ numberAt c labels k
       → (end : ℕ) → end ≡ at + frameLength (shapeNext c counter) → length labels ≡ 16 * c .frames
-      → FrameReceivable counts shape moved (sixteenAt labels k) (midOf at (end - at) bits)
+      → FrameReceivable shape number moved (sixteenAt labels k) (midOf at (end - at) bits)
   unfolding t
-  frame-receivable counts known shape e end is-end count =
+  frame-receivable shape e number is-number end is-end count =
       let fits = next-fits c sound counter in
       let ranges : inRange (ringCount c) (c .uncoded) 4 (sixteenAt labels k) ≡ true = rw (← sixteen-is labels k) (next .ranges) in
       record {
         readable =
             record {
-              counts = own-counts (ringCount c) counts known;
+              M = ringCount c;
               few = rw e (fits .few);
               threes = rw e (fits .threes);
               uncoded = rw e (fits .uncoded);
               turn = h .told .turn;
               sixteen = sixteen-length labels (c .frames) count k more;
-              ranges = rw (e, known .of) (shape-range c sound counter (sixteenAt labels k) ranges);
+              ranges = rw e (shape-range c sound counter (sixteenAt labels k) ranges);
+              ranked = is-number ∙ sym (number-is c sound labels k counter (ringCount c) shape refl e);
               size = mid-len at end bits (omega (arith, frame-room)) ∙ rw e (omega arith);
             };
         held = h .held;
-        number = rw (e, known .of, ← sixteen-is labels k) (next .number);
+        fits = rw (e, ← sixteen-is labels k) (next .number);
         steps = rw (e, ← sixteen-is labels k) (next .steps);
       }
 
   -- and then the next is to follow
-  module _ (after : Moved) (counter' end : ℕ) (part bits' : List ℕ) (M : ℕ) (shape : Shape)
-      (m : M ≡ ringCount c) (e : shape ≡ shapeNext c counter)
-      (done : FrameReceived M (c .role) shape moved (sixteenAt labels k) after part)
+  module _ (after : Moved) (counter' end : ℕ) (part bits' : List ℕ) (shape : Shape) (number : ℕ)
+      (e : shape ≡ shapeNext c counter) (is-number : number ≡ numberAt c labels k)
+      (done : FrameReceived (c .role) shape number moved (sixteenAt labels k) after part)
       (is-end : end ≡ at + frameLength (shapeNext c counter)) (counted : counter' ≡ counterAfter (c .frames) (c .step) counter)
       (is-put : bits' ≡ putMid at (end - at) bits part) where
-    read-is : frameRead M shape (moved .z) (sixteenAt labels k) ≡ nextBits c t
-    unfolding nextBits t
-    read-is = rw (m, e, sixteen-is labels k)
+    read-is : bitsRead shape number (moved .z) (sixteenAt labels k) ≡ nextBits c t
+    unfolding nextBits frameRead t
+    read-is =
+        let ranked = number-is c sound labels k counter (ringCount c) (shapeNext c counter) refl refl in
+        rw (is-number, ← ranked, e, sixteen-is labels k)
 
     part-is : part ≡ comingBits c (coming t (moved .register))
     unfolding comingBits

@@ -12,6 +12,7 @@
 --     Sends         what the loop of `send` holds
 --     Writes        the writer's answer by its ways out
 --     Passes        the labels of a data frame, as the reader's passes meet them
+--     Numbers       the numbers of the frames' rings, which are found once
 --     Incoming      what the loop of `receive` holds
 --     Refused       the reader's tests, and its answer by its ways out
 pub mod Ranges
@@ -26,5 +27,6 @@ pub mod Bytes
 pub mod Sends
 pub mod Writes
 pub mod Passes
+pub mod Numbers
 pub mod Incoming
 pub mod Refused

@@ -1,11 +1,12 @@
 // The reader: one data frame's labels back to its bits.
+ghost use mathlib.Core.Bool.{true};
 ghost use mathlib.Core.Path.{_≡_};
 ghost use Prim.Native.Nat.{ℕ, _≤_, _<_};
 ghost use lib.ListN.{length};
 ghost use Rattle.line.specs.declared.settings.Worked.the-variants.{Accepted};
 ghost use Rattle.rings.specs.Counts.{CountsOf};
 ghost use Rattle.coder.specs.Answers.{ReadAnswer, Receivable, readRefusal};
-ghost use Rattle.coder.specs.Turns.{Settled, NextOf, Lent, Ranging, FrameReceivable, FrameReceived};
+ghost use Rattle.coder.specs.Turns.{Settled, NextOf, Lent, Ranging, Ranked, FrameReceivable, FrameReceived};
 ghost use Rattle.coder.specs.Receiving.{receivingOf, dataBits, dataReadRegister, dataReadTurned, allInRange, numbersFit, allStepsFit};
 ghost use Rattle.coder.specs.Sending.{ringCount};
 ghost use Rattle.coder.specs.State.{workedIn};
@@ -20,6 +21,7 @@ use frame::check::in_range;
 use frame::check::number_fits;
 use frame::check::steps_fit;
 use frame::read::label_at;
+use frame::read::number_read;
 use frame::read::read_frame;
 use frame::shape::Shape;
 use frame::shape::shape_of;
@@ -72,19 +74,23 @@ fn all_in_range(c: Settings, labels: &[u16]) -> bool
     true
 }
 
-// Refusal 11: whether the number of every frame's rings fits.
-fn numbers_fit(c: Settings, counts: Counts, labels: &[u16]) -> bool
+// Refusal 11: whether the number of every frame's rings fits. Where all do, the lent numbers are theirs, for reading.
+fn numbers_fit(c: Settings, counts: Counts, labels: &[u16], numbers: &mut [u64]) -> bool
     requires { ⌜ Ranging c (now labels) ⌝ }
     requires { ⌜ CountsOf (ringCount c) counts ⌝ }
+    requires { ⌜ length (now numbers) ≡ 16 ⌝ }
     ensures { λ r. ⌜ ((z : ℕ) → r ≡ numbersFit c (c .frames) (receivingOf z (now (labels .entry)))) ⌝ }
+    ensures { λ r. ⌜ (r ≡ true → Ranked c (now (labels .entry)) (now (numbers .exit))) ⌝ }
 {
     let mut counter = 0;
     let mut k = 0;
     while k < c.frames as usize {
         let next = next_of(c, counter);
-        if !number_fits(counts, next.shape, &labels[16 * k..16 * k + 16]) {
+        let number = number_read(counts, next.shape, &labels[16 * k..16 * k + 16]);
+        if !number_fits(next.shape, number) {
             return false;
         }
+        numbers[k] = number;
         counter = next.counter;
         k += 1;
     }
@@ -112,11 +118,21 @@ fn steps_all_fit(c: Settings, z: u64, labels: &[u16]) -> bool
     true
 }
 
-// The reader's refusal where the settings are accepted: each test is of the whole data frame.
-fn read_refusal(c: Settings, counts: Counts, st: State, labels: &[u16], lent: usize) -> u64
+// The reader's refusal where the settings are accepted: each test is of the whole data frame. Where none refuses, the lent numbers are those
+// of the frames' rings.
+fn read_refusal(
+    c: Settings,
+    counts: Counts,
+    st: State,
+    labels: &[u16],
+    lent: usize,
+    numbers: &mut [u64],
+) -> u64
     requires { ⌜ workedIn st ≡ Accepted c ⌝ }
     requires { ⌜ CountsOf (ringCount c) counts ⌝ }
+    requires { ⌜ length (now numbers) ≡ 16 ⌝ }
     ensures { λ r. ⌜ r ≡ readRefusal (Accepted c) st (now (labels .entry)) lent ⌝ }
+    ensures { λ r. ⌜ (r ≡ 0 → Ranked c (now (labels .entry)) (now (numbers .exit))) ⌝ }
 {
     if is_unfit(st) {
         return 7;
@@ -127,13 +143,20 @@ fn read_refusal(c: Settings, counts: Counts, st: State, labels: &[u16], lent: us
     if !all_in_range(c, labels) {
         return 10;
     }
-    if !numbers_fit(c, counts, labels) {
+    if !numbers_fit(c, counts, labels, numbers) {
         return 11;
     }
     if !steps_all_fit(c, st.z, labels) {
         return 12;
     }
     0
+}
+
+// Room for the numbers of any frames' rings.
+fn no_numbers() -> [u64; 16]
+    ensures { λ r. ⌜ length r ≡ 16 ⌝ }
+{
+    [0; 16]
 }
 
 // Room for the bits of any frame.
@@ -143,29 +166,30 @@ fn blank() -> [u8; 83]
     [0; 83]
 }
 
-// The bits of one frame, into the part of the bit buffer that is lent for them, and the register and Z after it.
+// The bits of one frame, `number` being that of its rings, into the part of the bit buffer that is lent for them, and the register and Z
+// after it.
 fn receive_frame(
     role: u64,
-    counts: Counts,
     shape: Shape,
+    number: u64,
     before: Moved,
     labels: &[u16],
     bits: &mut [u8],
 ) -> Moved
-    requires { ⌜ FrameReceivable counts shape before (now labels) (now bits) ⌝ }
-    ensures { λ r. ⌜ FrameReceived (counts .m) role shape before (now (labels .entry)) r (now (bits .exit)) ⌝ }
+    requires { ⌜ FrameReceivable shape number before (now labels) (now bits) ⌝ }
+    ensures { λ r. ⌜ FrameReceived role shape number before (now (labels .entry)) r (now (bits .exit)) ⌝ }
 {
     let size = bits.len();
     let mut space = blank();
-    let z = read_frame(counts, shape, before.z, labels, &mut space[..size]);
+    let z = read_frame(shape, number, before.z, labels, &mut space[..size]);
     let register = descramble_part(role, before.register, &space[..size], bits);
     Moved { register, z }
 }
 
-// The bits of a data frame, straight into the lent buffer.
-fn receive(st: State, c: Settings, counts: Counts, labels: &[u16], bits: &mut [u8]) -> Moved
+// The bits of a data frame, straight into the lent buffer. Its frames are ranked already.
+fn receive(st: State, c: Settings, labels: &[u16], numbers: &[u64], bits: &mut [u8]) -> Moved
     requires { ⌜ Receivable st c (now labels) (now bits) ⌝ }
-    requires { ⌜ CountsOf (ringCount c) counts ⌝ }
+    requires { ⌜ Ranked c (now labels) (now numbers) ⌝ }
     ensures { λ r. ⌜ now (bits .exit) ≡ dataBits c (st .register) (st .z) (now (labels .entry)) ⌝ }
     ensures { λ r. ⌜ (r .register ≡ dataReadRegister c (st .register) (st .z) (now (labels .entry))) × (r .z ≡ dataReadTurned c (st .z) (now (labels .entry))) ⌝ }
 {
@@ -181,8 +205,8 @@ fn receive(st: State, c: Settings, counts: Counts, labels: &[u16], bits: &mut [u
         let end = at + next.size;
         moved = receive_frame(
             c.role,
-            counts,
             next.shape,
+            numbers[k],
             moved,
             &labels[16 * k..16 * k + 16],
             &mut bits[at..end],
@@ -204,11 +228,12 @@ pub fn read(st: State, labels: &[u16], bits: &mut [u8]) -> Coded
     };
     let shaping = c.shaping;
     let counts = counts_of(rings_of_shaping(shaping));
-    let number = read_refusal(c, counts, st, labels, bits.len());
-    if number != 0 {
-        return refused(number, st);
+    let mut numbers = no_numbers();
+    let refusal = read_refusal(c, counts, st, labels, bits.len(), &mut numbers);
+    if refusal != 0 {
+        return refused(refusal, st);
     }
-    let moved = receive(st, c, counts, labels, bits);
+    let moved = receive(st, c, labels, &numbers, bits);
     Coded {
         refusal: 0,
         bits: c.bits,

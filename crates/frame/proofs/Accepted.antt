@@ -16,7 +16,7 @@ use Rattle.listing.proofs.Agree.{rings-of-number}
 use Rattle.frame.specs.declared.shape.Shape.{Shape}
 use Rattle.frame.specs.Shape.{frameLength}
 use Rattle.frame.specs.Writing.{Writing, symbolLabels, afterSymbol, frameStart, frameLabels, frameTurned}
-use Rattle.frame.specs.Reading.{Reading, readBits, afterRead, ringsRead, numberRead, frameRead, frameReadTurned, inRange, numberFits, stepsFit}
+use Rattle.frame.specs.Reading.{Reading, readBits, afterRead, ringsRead, numberRead, bitsRead, frameRead, frameReadTurned, inRange, numberFits, stepsFit}
 use Rattle.frame.proofs.Chain.{reading, SymbolsRead, writeAgain, four-symbols, symbols-read}
 use Rattle.frame.proofs.Written.{last-turn}
 
@@ -67,7 +67,7 @@ module _ (M : ℕ) (shape : Shape) (z : ℕ) (labels : List ℕ) where
 
       -- what is written starts where reading did
       start-again : frameStart M shape z (frameRead M shape z labels) ≡ writeAgain q 4 start symbolsBits
-      unfolding frameStart frameRead
+      unfolding frameStart frameRead bitsRead
       start-again =
           λ i. record {
             bits = drop-at (digits (shape .shell) S) symbolsBits (shape .shell) (length-digits (shape .shell) S) i;
@@ -82,7 +82,7 @@ module _ (M : ℕ) (shape : Shape) (z : ℕ) (labels : List ℕ) where
               ∙ value-digits (shape .shell) S S-below
 
       pub accepted : Accepted M shape z labels (frameRead M shape z labels)
-      unfolding frameLength frameLabels frameTurned frameRead
+      unfolding frameLength frameLabels frameTurned frameRead bitsRead
       accepted =
           record {
             binary = bits-append (digits (shape .shell) S) symbolsBits (bits-digits (shape .shell) S) (symbols .binary);

@@ -19,7 +19,7 @@ use Rattle.rings.proofs.Tests.{ofList-asList}
 use Rattle.frame.specs.declared.shape.Shape.{Shape}
 use Rattle.frame.specs.Shape.{frameLength}
 use Rattle.frame.specs.Writing.{Writing, frameStart, frameLabels, frameTurned}
-use Rattle.frame.specs.Reading.{afterRead, numberRead, frameRead, frameReadTurned, inRange, numberFits, stepsFit}
+use Rattle.frame.specs.Reading.{afterRead, numberRead, bitsRead, frameRead, frameReadTurned, inRange, numberFits, stepsFit}
 use Rattle.frame.proofs.Chain.{RingsBelow, reading, Left, SymbolsWritten, four-symbols, symbols-written}
 
 -- the eight rings of a set, one after the other
@@ -93,7 +93,7 @@ module _ (M : ℕ) (shape : Shape) (z : ℕ) (bits : List ℕ) where
       shell-back = rw number-is (digits-value-take (shape .shell) bits (omega (arith, size)) binary)
 
       pub written : Written M shape z bits (frameLabels M shape z bits)
-      unfolding numberFits frameRead frameTurned frameStart
+      unfolding numberFits frameRead bitsRead frameTurned frameStart
       written =
           record {
             sixteen = symbols .size;

@@ -59,11 +59,15 @@ ringsRead q (suc k) labels = getD labels 0 0 / 2 ^ q ∷ getD labels 1 0 / 2 ^ q
 unfoldable pub numberRead : ℕ → Shape → List ℕ → ℕ
 numberRead M shape labels = number M (ofList (ringsRead (shape .uncoded) 4 labels))
 
+-- the bits of a frame whose rings have a known number
+unfoldable pub bitsRead : Shape → ℕ → ℕ → List ℕ → List ℕ
+bitsRead shape number z labels =
+    digits (shape .shell) number
+    ++ emit (readBits (shape .uncoded)) (afterRead (shape .uncoded)) 4 (record { labels = labels; threes = shape .threes; z = z })
+
 -- the bits of a frame, and Z after it
 unfoldable pub frameRead : ℕ → Shape → ℕ → List ℕ → List ℕ
-frameRead M shape z labels =
-    digits (shape .shell) (numberRead M shape labels)
-    ++ emit (readBits (shape .uncoded)) (afterRead (shape .uncoded)) 4 (record { labels = labels; threes = shape .threes; z = z })
+frameRead M shape z labels = bitsRead shape (numberRead M shape labels) z labels
 
 unfoldable pub frameReadTurned : List ℕ → ℕ
 frameReadTurned labels = getD labels 14 0
@@ -82,8 +86,11 @@ inRangeAt top labels at =
     && (ltb (getD labels (at + 1) 0) top && (leb (getD labels (at + 2) 0) 3 && leb (getD labels (at + 3) 0) 1))
 
 -- 11: the number can be written with the bits of S that the frame has
+abbrev pub shellHolds : Shape → ℕ → Bool
+shellHolds shape number = ltb number (2 ^ shape .shell)
+
 unfoldable pub numberFits : ℕ → Shape → List ℕ → Bool
-numberFits M shape labels = ltb (numberRead M shape labels) (2 ^ shape .shell)
+numberFits M shape labels = shellHolds shape (numberRead M shape labels)
 
 -- 12: no I3 of 1 where the symbol carries none
 unfoldable pub stepsFit : ℕ → ℕ → ℕ → List ℕ → Bool
@@ -111,13 +118,14 @@ pub record Stepped (z : ℕ) (labels : List ℕ) : Type 0 where
   pub sixteen : length labels ≡ 16
   pub turns : (j : ℕ) → j < 4 → getD labels (4 * j + 2) 0 ≤ 3
 
--- what has to hold where a frame is read: the counts are those of their M, sixteen labels in their ranges, and room for the frame's bits
-pub record Readable (c : Counts) (shape : Shape) (z : ℕ) (labels bits : List ℕ) : Type 0 where
-  pub counts : CountsOf (c .m) c
+-- what has to hold where a frame is read: sixteen labels in the ranges of an M, the number of their rings, and room for the frame's bits
+pub record Readable (shape : Shape) (number z : ℕ) (labels bits : List ℕ) : Type 0 where
+  pub M : ℕ
   pub few : shape .shell ≤ 31
   pub threes : shape .threes ≤ 4
   pub uncoded : shape .uncoded ≤ 5
   pub turn : z ≤ 3
   pub sixteen : length labels ≡ 16
-  pub ranges : inRange (c .m) (shape .uncoded) 4 labels ≡ true
+  pub ranges : inRange M (shape .uncoded) 4 labels ≡ true
+  pub ranked : number ≡ numberRead M shape labels
   pub size : length bits ≡ frameLength shape

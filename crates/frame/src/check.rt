@@ -4,12 +4,10 @@ ghost use mathlib.Core.Path.{_≡_};
 ghost use Prim.Native.Nat.{_+_, _≤_};
 ghost use lib.Dec.{ltb};
 ghost use lib.ListN.{length};
-ghost use Rattle.frame.specs.Reading.{inRange, inRangeAt, numberFits, stepsFit, Numbered, Stepped};
+ghost use Rattle.frame.specs.Reading.{inRange, inRangeAt, shellHolds, stepsFit, Stepped};
 use crate::read::label_at;
-use crate::read::number_read;
 use crate::read::step_of;
 use crate::shape::Shape;
-use rings::Counts;
 
 // Whether the four labels from `at` on are in their ranges, `top` being M·2^q.
 fn symbol_in_range(top: u64, labels: &[u16], at: usize) -> bool
@@ -45,11 +43,11 @@ pub fn in_range(m: u64, q: usize, labels: &[u16]) -> bool
 }
 
 // Refusal 11: whether the frame has the bits to write the number of the eight rings.
-pub fn number_fits(c: Counts, shape: Shape, labels: &[u16]) -> bool
-    requires { ⌜ Numbered c shape (now labels) ⌝ }
-    ensures { λ r. ⌜ r ≡ numberFits (c .m) shape (now (labels .entry)) ⌝ }
+pub fn number_fits(shape: Shape, number: u64) -> bool
+    requires { ⌜ shape .shell ≤ 31 ⌝ }
+    ensures { λ r. ⌜ r ≡ shellHolds shape number ⌝ }
 {
-    number_read(c, shape, labels) < 1u64 << shape.shell
+    number < 1u64 << shape.shell
 }
 
 // Whether a symbol can say a step of Z: one that carries no I3 says 0 or 1.

@@ -4,7 +4,7 @@ ghost use mathlib.Core.List.{[], _∷_, _++_};
 ghost use mathlib.Core.Path.{_≡_};
 ghost use Prim.Native.Nat.{_+_, _-_, _/_, _%_, _^_, _≤_, _<_};
 ghost use lib.ListN.{length, getD, take, drop};
-ghost use Rattle.frame.specs.Reading.{symbolRead, symbolBits, ringsRead, numberRead, frameRead, frameReadTurned, RingsFit, Numbered, Readable};
+ghost use Rattle.frame.specs.Reading.{symbolRead, symbolBits, ringsRead, numberRead, bitsRead, frameReadTurned, RingsFit, Numbered, Readable};
 ghost use Rattle.frame.specs.Shape.{symbolLength};
 use crate::bits::put_bit;
 use crate::bits::put_digits;
@@ -107,15 +107,16 @@ fn put_symbol(symbol: Symbol, q: usize, three: bool, bits: &mut [u8], at: usize)
     next + 2 * q
 }
 
-// The bits of a frame out of its sixteen labels, into the part of the bit buffer that is lent. It answers Z after the frame.
-pub fn read_frame(c: Counts, shape: Shape, z: u64, labels: &[u16], bits: &mut [u8]) -> u64
-    requires { ⌜ Readable c shape z (now labels) (now bits) ⌝ }
-    ensures { λ r. ⌜ (now (bits .exit) ≡ frameRead (c .m) shape z (now (labels .entry))) × (r ≡ frameReadTurned (now (labels .entry))) ⌝ }
+// The bits of a frame out of its sixteen labels and the number of their rings, into the part of the bit buffer that is lent. It answers Z
+// after the frame.
+pub fn read_frame(shape: Shape, number: u64, z: u64, labels: &[u16], bits: &mut [u8]) -> u64
+    requires { ⌜ Readable shape number z (now labels) (now bits) ⌝ }
+    ensures { λ r. ⌜ (now (bits .exit) ≡ bitsRead shape number z (now (labels .entry))) × (r ≡ frameReadTurned (now (labels .entry))) ⌝ }
 {
     let q = shape.uncoded;
     let threes = shape.threes;
     let mut at = shape.shell;
-    put_digits(number_read(c, shape, labels), at, bits, 0);
+    put_digits(number, at, bits, 0);
     let mut turned = z;
     let mut j = 0;
     while j < 4 {

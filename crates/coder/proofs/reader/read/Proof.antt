@@ -51,8 +51,20 @@ counts-of-requires c κs =
 counted : (k : tie.After-counts-of) → CountsOf (ringCount (k .before .before .before .w .given .0 .0)) (k .counts-of .result)
 counted k = rw (← k .before .rings-of-shaping .ensures) (k .counts-of .ensures)
 
+no-numbers-requires : tie.Need-no-numbers-requires
+no-numbers-requires c κs = search needs
+
+slice-aggregate-read-refusal : tie.Need-slice-aggregate-read-refusal
+slice-aggregate-read-refusal c = search needs
+
 read-refusal-requires : tie.Need-read-refusal-requires
-read-refusal-requires c κs = (worked (c .before .before .before), counted c)
+read-refusal-requires c κs =
+    let n = c .before in
+    (worked (n .before .before .before .before), (counted (n .before), n .no-numbers .ensures))
+
+-- from the refusal back to the settings
+abbrev settings-of : tie.After-read-refusal → tie.After-w
+settings-of k = k .before .before .before .before .before .before
 
 refused-requires-2 : tie.Need-refused-requires-2
 refused-requires-2 c κs = search needs
@@ -60,19 +72,24 @@ refused-requires-2 c κs = search needs
 returns-2 : tie.Need-returns-2
 returns-2 c =
     let t = c .before in
-    let n = t .before in
-    let k = n .before .before .before .before in
+    let n = t .before .before in
+    let k = settings-of n in
     let a = k .before .before .before .before .before .args in
     rw (c .refused2 .ensures)
-    (frame-refused (a .st) (a .labels .now) (a .bits .now) _ (n .read-refusal .result) (worked k) (n .read-refusal .ensures) (t .if1 .taken))
+    (frame-refused (a .st) (a .labels .now) (a .bits .now) _ (n .read-refusal .result) (worked k) (n .read-refusal .ensures .0) (t .if1 .taken))
+
+slice-aggregate-receive : tie.Need-slice-aggregate-receive
+slice-aggregate-receive c =
+    let n = c .before .before .before in
+    sym (n .read-refusal .kept .1 .1 .1 .1 .1 .0 ∙ n .before .before .no-numbers .ensures)
 
 receive-requires : tie.Need-receive-requires
 receive-requires c κs =
-    let e = c .before in
-    let n = e .before in
-    let k = n .before .before .before .before in
+    let e = c .before .before in
+    let n = e .before .before in
+    let k = settings-of n in
     let a = k .before .before .before .before .before .args in
-    (receivable (a .st) _ (a .labels .now) (a .bits .now) (worked k) (sym (n .read-refusal .ensures) ∙ e .if1 .left), counted (n .before))
+    (receivable (a .st) _ (a .labels .now) (a .bits .now) (worked k) (sym (n .read-refusal .ensures .0) ∙ e .if1 .left), n .read-refusal .ensures .1 (e .if1 .left))
 
 moved-on-requires : tie.Need-moved-on-requires
 moved-on-requires c κs = search needs
@@ -83,12 +100,12 @@ same-length c = search needs
 returns-3 : tie.Need-returns-3
 returns-3 c =
     let m = c .before .before .before in
-    let e = m .before .before in
-    let n = e .before in
-    let k = n .before .before .before .before in
+    let e = m .before .before .before in
+    let n = e .before .before in
+    let k = settings-of n in
     let a = k .before .before .before .before .before .args in
     rw (c .moved-on .ensures)
-    (frame-received (a .st) (a .labels .now) (a .bits .now) (k .w .given .0 .0) _ (m .receive .result) (worked k) (sym (n .read-refusal .ensures) ∙ e .if1 .left)
+    (frame-received (a .st) (a .labels .now) (a .bits .now) (k .w .given .0 .0) _ (m .receive .result) (worked k) (sym (n .read-refusal .ensures .0) ∙ e .if1 .left)
     (m .receive .ensures .0) (m .receive .ensures .1 .0) (m .receive .ensures .1 .1))
 
 pub read-spec : {M : Type 1} → statement M
@@ -103,9 +120,12 @@ read-spec =
     returns
     rings-of-shaping-requires
     counts-of-requires
+    no-numbers-requires
+    slice-aggregate-read-refusal
     read-refusal-requires
     refused-requires-2
     returns-2
+    slice-aggregate-receive
     receive-requires
     moved-on-requires
     same-length

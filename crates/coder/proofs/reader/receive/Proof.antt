@@ -14,15 +14,15 @@ use Rattle.coder.proofs.reader.receive.Statement.{statement}
 use Rattle.coder.proofs.reader.receive.Tie as tie
 
 abbrev Inv-loop : tie.InvT-loop
-Inv-loop c counts labels bits₀ moved₀ counter₀ at₀ k₀ bits moved counter at k =
+Inv-loop c labels numbers bits₀ moved₀ counter₀ at₀ k₀ bits moved counter at k =
     Halfway c labels (moved₀ .z) (moved₀ .register) k moved counter at bits
 
 abbrev μ-loop : tie.MeasureT-loop
-μ-loop c counts labels bits₀ moved₀ counter₀ at₀ k₀ bits moved counter at k = c .frames - k
+μ-loop c labels numbers bits₀ moved₀ counter₀ at₀ k₀ bits moved counter at k = c .frames - k
 
 -- the function's start, from a turn
 abbrev start-of : tie.In-loop Inv-loop μ-loop → tie.Start Inv-loop μ-loop
-start-of k = k .before .before .before .before
+start-of k = k .before .before .before .before .before
 
 settled : (k : tie.Start Inv-loop μ-loop) → Settled (k .args .c)
 settled k = settled-in (k .args .st) (k .args .c) (k .pre .0 .worked)
@@ -42,7 +42,7 @@ none k =
     (record { size = p .count; ranges = p .ranges; numbers = p .numbers; steps = p .steps; turn = p .turn }) (p .held) (p .size)
 
 loop-holds : tie.Need-loop-holds Inv-loop μ-loop
-loop-holds c = none (c .before .before)
+loop-holds c = none (c .before .before .before)
 
 next-of-requires : tie.Need-next-of-requires Inv-loop μ-loop
 next-of-requires c κs = (settled (start-of c), c .before .loop .inv .below)
@@ -78,14 +78,20 @@ add-end c = let r = room (c .before) in omega (arith, r .0, r .1)
 mul-receive-frame : tie.Need-mul-receive-frame Inv-loop μ-loop
 mul-receive-frame c = omega (arith, labels-there (c .before .before))
 
-mul-receive-frame-2 : tie.Need-mul-receive-frame-2 Inv-loop μ-loop
-mul-receive-frame-2 c = omega (arith, labels-there (c .before .before))
+shared-slice-read-receive-frame : tie.Need-shared-slice-read-receive-frame Inv-loop μ-loop
+shared-slice-read-receive-frame c = let t = c .before .before .before in omega (arith, start-of t .pre .1 .room, t .loop-test .taken)
 
-add-receive-frame : tie.Need-add-receive-frame Inv-loop μ-loop
-add-receive-frame c = omega (arith, labels-there (c .before .before))
+mul-receive-frame-2 : tie.Need-mul-receive-frame-2 Inv-loop μ-loop
+mul-receive-frame-2 c = omega (arith, labels-there (c .before .before .before))
 
 mul-receive-frame-3 : tie.Need-mul-receive-frame-3 Inv-loop μ-loop
-mul-receive-frame-3 c = omega (arith, labels-there (c .before .before))
+mul-receive-frame-3 c = omega (arith, labels-there (c .before .before .before))
+
+add-receive-frame : tie.Need-add-receive-frame Inv-loop μ-loop
+add-receive-frame c = omega (arith, labels-there (c .before .before .before))
+
+mul-receive-frame-4 : tie.Need-mul-receive-frame-4 Inv-loop μ-loop
+mul-receive-frame-4 c = omega (arith, labels-there (c .before .before .before))
 
 sub-receive-frame : tie.Need-sub-receive-frame Inv-loop μ-loop
 sub-receive-frame c = omega arith
@@ -94,7 +100,7 @@ part-receive-frame-start : tie.Need-part-receive-frame-start Inv-loop μ-loop
 part-receive-frame-start c = omega arith
 
 part-receive-frame-end : tie.Need-part-receive-frame-end Inv-loop μ-loop
-part-receive-frame-end c = let t = c .before .before in omega (arith, start-of t .pre .0 .count, t .loop-test .taken)
+part-receive-frame-end c = let t = c .before .before .before in omega (arith, start-of t .pre .0 .count, t .loop-test .taken)
 
 sub-receive-frame-2 : tie.Need-sub-receive-frame-2 Inv-loop μ-loop
 sub-receive-frame-2 c = omega arith
@@ -103,21 +109,21 @@ part-receive-frame-start-2 : tie.Need-part-receive-frame-start-2 Inv-loop μ-loo
 part-receive-frame-start-2 c = omega arith
 
 part-receive-frame-end-2 : tie.Need-part-receive-frame-end-2 Inv-loop μ-loop
-part-receive-frame-end-2 c = room (c .before .before) .0
+part-receive-frame-end-2 c = room (c .before .before .before) .0
 
 receive-frame-requires : tie.Need-receive-frame-requires Inv-loop μ-loop
 receive-frame-requires c κs =
-    let n = c .before .before .before in
+    let n = c .before .before .before .before in
     let t = n .before in
     let l = t .before .loop in
     let s = start-of t in
     let a = s .args in
     frame-receivable (a .c) (sound s) (a .labels .now) (a .st .z) (a .st .register) (l .k) (l .moved) (l .counter) (l .at) (l .bits) (l .inv) (t .loop-test .taken)
-    (a .counts) (s .pre .1) _ (n .next-of .ensures .shape) _ (end-is n) (s .pre .0 .count)
+    _ (n .next-of .ensures .shape) _ (s .pre .1 .found (l .k) (t .loop-test .taken)) _ (end-is n) (s .pre .0 .count)
 
 -- from the end of a turn back to the loop's test
 abbrev turn-of : tie.After-slice-known2 Inv-loop μ-loop → tie.In-loop Inv-loop μ-loop
-turn-of k = k .before .before .before .before .before .before .before
+turn-of k = k .before .before .before .before .before .before .before .before
 
 add-k : tie.Need-add-k Inv-loop μ-loop
 add-k c = omega (arith, labels-there (turn-of c))
@@ -128,21 +134,21 @@ loop-less c = omega (arith, turn-of c .loop-test .taken)
 loop-again : tie.Need-loop-again Inv-loop μ-loop
 loop-again c =
     let f = c .before .before in
-    let n = f .before .before .before .before in
+    let n = f .before .before .before .before .before in
     let t = n .before in
     let l = t .before .loop in
     let s = start-of t in
     let a = s .args in
     halfway-more (a .c) (sound s) (a .labels .now) (a .st .z) (a .st .register) (l .k) (l .moved) (l .counter) (l .at) (l .bits) (l .inv) (t .loop-test .taken)
-    _ _ _ _ _ _ _ (s .pre .1 .of) (n .next-of .ensures .shape) (f .receive-frame .ensures) (end-is n) (n .next-of .ensures .counted) refl
+    _ _ _ _ _ _ _ (n .next-of .ensures .shape) (s .pre .1 .found (l .k) (t .loop-test .taken)) (f .receive-frame .ensures) (end-is n) (n .next-of .ensures .counted) refl
 
 same-length : tie.Need-same-length Inv-loop μ-loop
-same-length c = c .before .loop .inv .filling .size ∙ sym (none (c .before .before .before .before) .filling .size)
+same-length c = c .before .loop .inv .filling .size ∙ sym (none (c .before .before .before .before .before) .filling .size)
 
 returns : tie.Need-returns Inv-loop μ-loop
 returns c =
     let l = c .before .loop in
-    let a = c .before .before .before .before .args in (
+    let a = c .before .before .before .before .before .args in (
       halfway-all (a .c) (a .labels .now) (a .st .z) (a .st .register) (l .k) (l .moved) (l .counter) (l .at) (l .bits) (l .inv) (c .loop-test .left),
       (
         halfway-register (a .c) (a .labels .now) (a .st .z) (a .st .register) (l .k) (l .moved) (l .counter) (l .at) (l .bits) (l .inv) (c .loop-test .left),
@@ -160,9 +166,11 @@ receive-spec =
     next-of-requires
     add-end
     mul-receive-frame
+    shared-slice-read-receive-frame
     mul-receive-frame-2
-    add-receive-frame
     mul-receive-frame-3
+    add-receive-frame
+    mul-receive-frame-4
     sub-receive-frame
     part-receive-frame-start
     part-receive-frame-end

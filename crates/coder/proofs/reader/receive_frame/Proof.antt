@@ -9,7 +9,7 @@ use lib.ListN.{length, take, drop, length-append, drop-of-length-le}
 use lib.Seq.{length-take-le, take-at}
 use Rattle.laws.specs.Digits.{Bits}
 use Rattle.frame.specs.Shape.{frameLength}
-use Rattle.frame.specs.Reading.{frameRead}
+use Rattle.frame.specs.Reading.{bitsRead, frameRead}
 use Rattle.frame.proofs.Accepted.{Accepted, accepted}
 use Rattle.scrambler.specs.Scrambler.{descramble, pushAll}
 use Rattle.coder.proofs.reader.receive_frame.Statement.{statement}
@@ -32,12 +32,13 @@ most k = let r = k .pre .readable in omega (arith, r .size, r .few, r .threes, r
 frame :
     (k : tie.Start)
     → let a = k .args in
-    Accepted (a .counts .m) (a .shape) (a .before .z) (a .labels .now) (frameRead (a .counts .m) (a .shape) (a .before .z) (a .labels .now))
+    Accepted (k .pre .readable .M) (a .shape) (a .before .z) (a .labels .now) (bitsRead (a .shape) (a .number) (a .before .z) (a .labels .now))
+unfolding frameRead
 frame k =
     let a = k .args in
     let p = k .pre in
     let r = p .readable in
-    accepted (a .counts .m) (a .shape) (a .before .z) (a .labels .now) (r .threes) (r .turn) (r .sixteen) (r .ranges) (p .number) (p .steps)
+    rw (r .ranked) (accepted (r .M) (a .shape) (a .before .z) (a .labels .now) (r .threes) (r .turn) (r .sixteen) (r .ranges) (p .fits) (p .steps))
 
 blank-requires : tie.Need-blank-requires
 blank-requires c κs = search needs
@@ -61,13 +62,14 @@ read-frame-requires : tie.Need-read-frame-requires
 read-frame-requires c κs =
     let r = c .before .before .before .before .pre .readable in
     record {
-      counts = r .counts;
+      M = r .M;
       few = r .few;
       threes = r .threes;
       uncoded = r .uncoded;
       turn = r .turn;
       sixteen = r .sixteen;
       ranges = r .ranges;
+      ranked = r .ranked;
       size = lent (c .before) ∙ r .size;
     }
 
@@ -82,7 +84,7 @@ again :
     → let s = k .before .before .before .before .before in
     let a = s .args in
     take (length (a .bits .now)) (k .read-frame .last .1 .1 .1 .1 .0 ++ drop (length (a .bits .now)) (k .before .before .blank .result))
-    ≡ frameRead (a .counts .m) (a .shape) (a .before .z) (a .labels .now)
+    ≡ bitsRead (a .shape) (a .number) (a .before .z) (a .labels .now)
 again k = take-at _ _ _ (read-long k) ∙ k .read-frame .ensures .0
 
 array-share-prefix-space : tie.Need-array-share-prefix-space
@@ -94,7 +96,7 @@ array-share-prefix-space c =
 read-size :
     (s : tie.Start)
     → let a = s .args in
-    length (frameRead (a .counts .m) (a .shape) (a .before .z) (a .labels .now)) ≡ length (a .bits .now)
+    length (bitsRead (a .shape) (a .number) (a .before .z) (a .labels .now)) ≡ length (a .bits .now)
 read-size s = frame s .size ∙ sym (s .pre .readable .size)
 
 slice-aggregate-descramble-part : tie.Need-slice-aggregate-descramble-part

@@ -9,7 +9,7 @@ use lib.ListN.{length, getD, take, drop}
 use lib.Seq.{getD-drop, take-all, take-at}
 use Rattle.laws.specs.Digits.{digits}
 use Rattle.laws.proofs.Positions.{put, put-take}
-use Rattle.frame.specs.Reading.{symbolRead, symbolBits, numberRead, frameRead, frameReadTurned}
+use Rattle.frame.specs.Reading.{symbolRead, symbolBits, bitsRead, frameReadTurned}
 use Rattle.frame.specs.Shape.{symbolLength, frameLength}
 use Rattle.frame.specs.declared.shape.Shape.{Shape}
 use Rattle.frame.specs.declared.symbol.Symbol.{Symbol}
@@ -53,17 +53,16 @@ module _ (q threes : ℕ) (labels : List ℕ) where
 
 -- the digits of the number are written, and all symbols are left
 started :
-    (M : ℕ) (shape : Shape) (z : ℕ) (labels bits bits' : List ℕ) (number : ℕ)
+    (shape : Shape) (number z : ℕ) (labels bits bits' : List ℕ)
     → bits' ≡ put bits 0 (shape .shell) (digits (shape .shell) number)
-    → number ≡ numberRead M shape labels
-    → take (shape .shell) bits' ++ leftBits (shape .uncoded) (shape .threes) labels 0 z ≡ frameRead M shape z labels
-unfolding frameRead
-started M shape z labels bits bits' number eb en =
+    → take (shape .shell) bits' ++ leftBits (shape .uncoded) (shape .threes) labels 0 z ≡ bitsRead shape number z labels
+unfolding bitsRead
+started shape number z labels bits bits' eb =
     let e : shape .threes - 0 ≡ shape .threes = omega arith in
-    rw (eb, take-at (digits (shape .shell) number) (drop (0 + shape .shell) bits) (shape .shell) (length-digits (shape .shell) number), en, e)
+    rw (eb, take-at (digits (shape .shell) number) (drop (0 + shape .shell) bits) (shape .shell) (length-digits (shape .shell) number), e)
 
 abbrev Inv-loop : tie.InvT-loop
-Inv-loop z labels bits₀ q threes at₀ turned₀ j₀ bits at turned j =
+Inv-loop number z labels bits₀ q threes at₀ turned₀ j₀ bits at turned j =
     (j ≤ 4)
     × (turned ≤ 3)
     × (length bits ≡ length bits₀)
@@ -71,21 +70,16 @@ Inv-loop z labels bits₀ q threes at₀ turned₀ j₀ bits at turned j =
     × (take at bits ++ leftBits q threes labels j turned ≡ take at₀ bits₀ ++ leftBits q threes labels 0 z)
 
 abbrev μ-loop : tie.MeasureT-loop
-μ-loop z labels bits₀ q threes at₀ turned₀ j₀ bits at turned j = 4 - j
-
-number-read-requires : tie.Need-number-read-requires Inv-loop μ-loop
-number-read-requires c κs =
-    let p = c .before .before .pre in
-    record { counts = p .counts; few = p .few; uncoded = p .uncoded; sixteen = p .sixteen; ranges = p .ranges }
+μ-loop number z labels bits₀ q threes at₀ turned₀ j₀ bits at turned j = 4 - j
 
 put-digits-requires : tie.Need-put-digits-requires Inv-loop μ-loop
 unfolding frameLength
-put-digits-requires c κs = omega (arith, c .before .before .before .before .pre .size)
+put-digits-requires c κs = omega (arith, c .before .before .before .pre .size)
 
 loop-holds : tie.Need-loop-holds Inv-loop μ-loop
 unfolding frameLength
 loop-holds c =
-    let s = c .before .before .before .before .before .before .before in
+    let s = c .before .before .before .before .before .before in
     let a = s .args in
     let k : length (c .before .before .put-digits .last .1 .1 .0) ≡ length (a .bits .now) = c .before .before .put-digits .kept .1 .1 .0 in
     let w = bits-whole (a .shape .uncoded) (a .shape .threes) (s .pre .threes) in
@@ -98,33 +92,33 @@ mul-symbol-read c = omega arith
 -- the labels of this symbol are in their ranges
 here :
     (k : tie.In-loop Inv-loop μ-loop)
-    → let a = k .before .before .before .before .before .before .before .before .before .args in
-    Ranged (a .c .m * 2 ^ a .shape .uncoded) (a .labels .now) (4 * k .before .loop .j)
+    → let s = k .before .before .before .before .before .before .before .before in
+    Ranged (s .pre .M * 2 ^ s .args .shape .uncoded) (s .args .labels .now) (4 * k .before .loop .j)
 here k =
-    let s = k .before .before .before .before .before .before .before .before .before in
-    ranged (s .args .c .m) (s .args .shape .uncoded) (s .args .labels .now) (s .pre .ranges) (k .before .loop .j) (k .loop-test .taken)
+    let s = k .before .before .before .before .before .before .before .before in
+    ranged (s .pre .M) (s .args .shape .uncoded) (s .args .labels .now) (s .pre .ranges) (k .before .loop .j) (k .loop-test .taken)
 
 -- and its bits have room
 room :
     (k : tie.In-loop Inv-loop μ-loop)
-    → let a = k .before .before .before .before .before .before .before .before .before .args in
+    → let a = k .before .before .before .before .before .before .before .before .args in
     let l = k .before .loop in
     l .at + symbolLength (a .shape .uncoded) (ltb (l .j) (a .shape .threes)) ≤ length (l .bits)
 room k =
-    let a = k .before .before .before .before .before .before .before .before .before .args in
+    let a = k .before .before .before .before .before .before .before .before .args in
     let l = k .before .loop in
     let n = bits-next (a .shape .uncoded) (a .shape .threes) (l .j) (k .loop-test .taken) in
     omega (arith, l .inv .2, l .inv .3)
 
 symbol-read-requires : tie.Need-symbol-read-requires Inv-loop μ-loop
 symbol-read-requires c κs =
-    let s = c .before .before .before .before .before .before .before .before .before in
+    let s = c .before .before .before .before .before .before .before .before in
     let l = c .before .loop in
     (omega (arith, s .pre .sixteen), s .pre .uncoded, l .inv .1, here c .turn)
 
 put-symbol-requires : tie.Need-put-symbol-requires Inv-loop μ-loop
 put-symbol-requires c κs =
-    let s = c .before .before .before .before .before .before .before .before .before .before .before in
+    let s = c .before .before .before .before .before .before .before .before .before .before in
     let l = c .before .before .before .loop in
     let f = binary _ (l .turned) (s .args .labels .now) (4 * l .j) (s .args .shape .uncoded) (here (c .before .before)) in
     rw (c .before .symbol-read .ensures) (f .0, f .1, f .2, room (c .before .before))
@@ -136,7 +130,7 @@ add-label-at : tie.Need-add-label-at Inv-loop μ-loop
 add-label-at c = omega arith
 
 label-at-requires : tie.Need-label-at-requires Inv-loop μ-loop
-label-at-requires c κs = omega (arith, c .before .before .before .before .before .before .before .before .before .before .before .before .before .before .pre .sixteen)
+label-at-requires c κs = omega (arith, c .before .before .before .before .before .before .before .before .before .before .before .before .before .pre .sixteen)
 
 add-j : tie.Need-add-j Inv-loop μ-loop
 add-j c = omega arith
@@ -146,7 +140,7 @@ loop-less c = omega arith
 
 loop-again : tie.Need-loop-again Inv-loop μ-loop
 loop-again c =
-    let s = c .before .before .before .before .before .before .before .before .before .before .before .before .before .before .before in
+    let s = c .before .before .before .before .before .before .before .before .before .before .before .before .before .before in
     let a = s .args in
     let l = c .before .before .before .before .before .before .before .loop in
     let p = c .before .before .before .put-symbol in
@@ -162,18 +156,18 @@ loop-again c =
     )
 
 label-at-requires-2 : tie.Need-label-at-requires-2 Inv-loop μ-loop
-label-at-requires-2 c κs = omega (arith, c .before .before .before .before .before .before .before .before .before .pre .sixteen)
+label-at-requires-2 c κs = omega (arith, c .before .before .before .before .before .before .before .before .pre .sixteen)
 
 same-length : tie.Need-same-length Inv-loop μ-loop
 same-length c =
     let d = c .before .before .before .before .before in
-    let k : length (d .put-digits .last .1 .1 .0) ≡ length (d .before .before .before .before .before .args .bits .now) = d .put-digits .kept .1 .1 .0 in
+    let k : length (d .put-digits .last .1 .1 .0) ≡ length (d .before .before .before .before .args .bits .now) = d .put-digits .kept .1 .1 .0 in
     c .before .before .loop .inv .2 ∙ k
 
 returns : tie.Need-returns Inv-loop μ-loop
 unfolding frameReadTurned
 returns c =
-    let s = c .before .before .before .before .before .before .before .before .before .before in
+    let s = c .before .before .before .before .before .before .before .before .before in
     let a = s .args in
     let l = c .before .before .loop in
     let d = c .before .before .before .before .before in
@@ -181,7 +175,7 @@ returns c =
       all-read (a .shape .uncoded) (a .shape .threes) (a .labels .now) (l .bits) (l .at) (l .j) (l .turned) (c .before .loop-test .left)
           (omega (arith, l .inv .2, l .inv .3))
           ∙ (l .inv .4
-          ∙ started (a .c .m) (a .shape) (a .z) (a .labels .now) (a .bits .now) _ _ (d .put-digits .ensures) (d .before .before .number-read .ensures)),
+          ∙ started (a .shape) (a .number) (a .z) (a .labels .now) (a .bits .now) _ (d .put-digits .ensures)),
       c .label-at2 .ensures,
     )
 
@@ -191,7 +185,6 @@ read-frame-spec =
     (tie.spec
     Inv-loop
     μ-loop
-    number-read-requires
     put-digits-requires
     loop-holds
     mul-symbol-read
