@@ -16,8 +16,6 @@ use Rattle.line.specs.declared.settings.Settings.{Settings}
 use Rattle.line.specs.declared.settings.Worked.the-variants.{Accepted}
 use Rattle.line.specs.Switching.{counterAfter}
 use Rattle.line.proofs.Soundness.{Sound, accepted-sound}
-use Rattle.rings.specs.Counts.{CountsOf}
-use Rattle.rings.specs.declared.counts.Counts.{Counts}
 use Rattle.frame.specs.declared.shape.Shape.{Shape}
 use Rattle.frame.specs.Reading.{inRange, numberFits, stepsFit, frameReadTurned, Numbered}
 use Rattle.frame.proofs.Lengths.{next-fits}
@@ -112,22 +110,15 @@ pub shape-range :
     → inRange (ringCount c) (shapeNext c counter .uncoded) 4 labels ≡ true
 shape-range c sound counter labels e = rw (uncoded-is c sound (highNext c counter)) e
 
--- the counts are those of their own M
-pub own-counts : (M : ℕ) (counts : Counts) → CountsOf M counts → CountsOf (counts .m) counts
-own-counts M counts k = subst (λ (m : ℕ). CountsOf m counts) (sym (k .of)) k
-
 -- the number of a frame's rings can be looked for
 pub numbered :
-    (c : Settings) → Sound c → (counts : Counts) → CountsOf (ringCount c) counts → (counter : ℕ) (shape : Shape) → shape ≡ shapeNext c counter
-    → (labels : List ℕ) → length labels ≡ 16 → inRange (ringCount c) (c .uncoded) 4 labels ≡ true → Numbered counts shape labels
-numbered c sound counts k counter shape e labels sixteen ranges =
-    let fits = next-fits c sound counter in
+    (c : Settings) → Sound c → (m : ℕ) → m ≡ ringCount c → (counter : ℕ) (shape : Shape) → shape ≡ shapeNext c counter
+    → (labels : List ℕ) → length labels ≡ 16 → inRange (ringCount c) (c .uncoded) 4 labels ≡ true → Numbered m shape labels
+numbered c sound m is-m counter shape e labels sixteen ranges =
     record {
-      counts = own-counts (ringCount c) counts k;
-      few = rw e (fits .few);
-      uncoded = rw e (fits .uncoded);
+      uncoded = rw e (next-fits c sound counter .uncoded);
       sixteen = sixteen;
-      ranges = rw (e, k .of) (shape-range c sound counter labels ranges);
+      ranges = rw (e, is-m) (shape-range c sound counter labels ranges);
     }
 
 -- Z of labels in their ranges is at most 3

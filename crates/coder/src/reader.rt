@@ -86,7 +86,14 @@ fn numbers_fit(c: Settings, counts: Counts, labels: &[u16], numbers: &mut [u64])
     let mut k = 0;
     while k < c.frames as usize {
         let next = next_of(c, counter);
-        let number = number_read(counts, next.shape, &labels[16 * k..16 * k + 16]);
+        let number = number_read(
+            counts.m,
+            &counts.pairs,
+            &counts.fours,
+            &counts.lighter,
+            next.shape,
+            &labels[16 * k..16 * k + 16],
+        );
         if !number_fits(next.shape, number) {
             return false;
         }

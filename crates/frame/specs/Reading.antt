@@ -15,8 +15,6 @@ use Rattle.laws.specs.Digits.{digits}
 use Rattle.laws.specs.Emit.{emit, iter}
 use Rattle.listing.specs.Number.{number}
 use Rattle.listing.specs.Sets.{ofList}
-use Rattle.rings.specs.Counts.{CountsOf}
-use Rattle.rings.specs.declared.counts.Counts.{Counts}
 use Rattle.frame.specs.Shape.{frameLength}
 use Rattle.frame.specs.declared.shape.Shape.{Shape}
 use Rattle.frame.specs.declared.symbol.Symbol.{Symbol}
@@ -104,13 +102,11 @@ pub record RingsFit (q : ℕ) (labels : List ℕ) : Type 0 where
   pub sixteen : length labels ≡ 16
   pub small : (i : ℕ) → i < 8 → getD (ringsRead q 4 labels) i 0 < 256
 
--- what has to hold where their number is looked for: the counts are those of their M, and sixteen labels in their ranges
-pub record Numbered (c : Counts) (shape : Shape) (labels : List ℕ) : Type 0 where
-  pub counts : CountsOf (c .m) c
-  pub few : shape .shell ≤ 31
+-- what has to hold where their number is looked for: sixteen labels in their ranges
+pub record Numbered (M : ℕ) (shape : Shape) (labels : List ℕ) : Type 0 where
   pub uncoded : shape .uncoded ≤ 5
   pub sixteen : length labels ≡ 16
-  pub ranges : inRange (c .m) (shape .uncoded) 4 labels ≡ true
+  pub ranges : inRange M (shape .uncoded) 4 labels ≡ true
 
 -- what has to hold where the steps of Z are looked at: sixteen labels, and no Z above 3
 pub record Stepped (z : ℕ) (labels : List ℕ) : Type 0 where

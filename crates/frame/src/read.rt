@@ -4,13 +4,13 @@ ghost use mathlib.Core.List.{[], _∷_, _++_};
 ghost use mathlib.Core.Path.{_≡_};
 ghost use Prim.Native.Nat.{_+_, _-_, _/_, _%_, _^_, _≤_, _<_};
 ghost use lib.ListN.{length, getD, take, drop};
+ghost use Rattle.rings.specs.Counts.{Rows};
 ghost use Rattle.frame.specs.Reading.{symbolRead, symbolBits, ringsRead, numberRead, bitsRead, frameReadTurned, RingsFit, Numbered, Readable};
 ghost use Rattle.frame.specs.Shape.{symbolLength};
 use crate::bits::put_bit;
 use crate::bits::put_digits;
 use crate::shape::Shape;
 use crate::symbol::Symbol;
-use rings::Counts;
 use rings::Rings;
 use rings::number_of;
 
@@ -50,12 +50,20 @@ fn rings_read(q: usize, labels: &[u16]) -> Rings
 }
 
 // Their number.
-pub fn number_read(c: Counts, shape: Shape, labels: &[u16]) -> u64
-    requires { ⌜ Numbered c shape (now labels) ⌝ }
-    ensures { λ r. ⌜ r ≡ numberRead (c .m) shape (now (labels .entry)) ⌝ }
+pub fn number_read<'a>(
+    m: u64,
+    pairs: &'a [u64; 69],
+    fours: &'a [u64; 137],
+    lighter: &'a [u64; 137],
+    shape: Shape,
+    labels: &[u16],
+) -> u64
+    requires { ⌜ Rows m (now pairs) (now fours) (now lighter) ⌝ }
+    requires { ⌜ Numbered m shape (now labels) ⌝ }
+    ensures { λ r. ⌜ r ≡ numberRead m shape (now (labels .entry)) ⌝ }
 {
     let rings = rings_read(shape.uncoded, labels);
-    number_of(c.m, &c.pairs, &c.fours, &c.lighter, rings)
+    number_of(m, pairs, fours, lighter, rings)
 }
 
 // The step from one Z to the next: I2 + 2·I3.
