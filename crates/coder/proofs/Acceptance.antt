@@ -1,5 +1,5 @@
 -- When the writer and the reader answer 0: exactly when the settings are accepted, register and Z are fit, the lengths are exact, and the
--- bytes are bits, or no test refuses the labels. Then N is the number of bits, and the lent buffer holds the data frame. Assumes nothing.
+-- bytes are bits, or no test refuses the labels. Then N is the number of bits. Assumes nothing.
 use mathlib.Core.Bool.{Bool, true, false, not, cond, _||_}
 use mathlib.Core.List.{List, [], _∷_}
 use mathlib.Core.Logic.{_↔_}
@@ -22,7 +22,7 @@ use Rattle.coder.specs.declared.states.State.{State}
 use Rattle.coder.specs.declared.states.Coded.{Coded}
 use Rattle.coder.specs.State.{workedIn, unfit}
 use Rattle.coder.specs.Receiving.{receivingOf, allInRange, numbersFit, allStepsFit}
-use Rattle.coder.specs.Answers.{allBits, exact, writeRefusal, readRefusal, written, received, labelsOf, bitsOf, writtenOf, labelsAfter, readOf, bitsAfter, Sendable, Receivable}
+use Rattle.coder.specs.Answers.{allBits, exact, writeRefusal, readRefusal, written, received, writtenOf, readOf, Sendable, Receivable}
 
 -- The tests, and what they say.
 
@@ -77,6 +77,18 @@ settings-sound st c = accepted-sound (st .role) (st .s) (st .n) (st .shaping) (s
 abbrev answerAt : ℕ → Coded → State → Coded
 answerAt number done st = cond (eqb number 0) done (record { refusal = number; bits = 0; state = st })
 
+-- a refused answer holds the state as it was given
+kept-state :
+    (number : ℕ) (done : Coded) (st : State) → (number ≡ 0 → done .refusal ≡ 0) → (answerAt number done st .refusal ≡ 0 → ⊥)
+    → answerAt number done st .state ≡ st
+kept-state number done st zero some = go (eqb number 0) refl some
+  where
+    go :
+        (v : Bool) → eqb number 0 ≡ v → (cond v done (record { refusal = number; bits = 0; state = st }) .refusal ≡ 0 → ⊥)
+        → cond v done (record { refusal = number; bits = 0; state = st }) .state ≡ st
+    go true f g = absurd (g (zero (eqb-true number 0 f)))
+    go false f g = refl
+
 zero-given : (number : ℕ) (done : Coded) (st : State) → answerAt number done st .refusal ≡ 0 → number ≡ 0
 zero-given number done st e = go (eqb number 0) refl e
   where
@@ -86,13 +98,13 @@ zero-given number done st e = go (eqb number 0) refl e
 
 -- The writer.
 module _ (st : State) (bits out : List ℕ) where
-  sendable-unrefused : (c : Settings) → Sendable st c bits out → writeRefusal (Accepted c) st bits (length out) ≡ 0
+  pub sendable-unrefused : (c : Settings) → Sendable st c bits out → writeRefusal (Accepted c) st bits (length out) ≡ 0
   sendable-unrefused c w =
       passed-over _ _ _ (fit-passes st (w .held) (w .turn))
       ∙ (passed-over _ _ _ (exact-passes c (length bits) (length out) (w .size) (w .labels))
       ∙ (passed-over _ _ _ (ap not (bits-all bits (w .binary))) ∙ no-tests))
 
-  unrefused-sendable :
+  pub unrefused-sendable :
       (c : Settings) → workedIn st ≡ Accepted c → writeRefusal (Accepted c) st bits (length out) ≡ 0 → Sendable st c bits out
   unrefused-sendable c e e₁ =
       let e₂ = none-rest _ _ _ e₁ in
@@ -115,12 +127,17 @@ module _ (st : State) (bits out : List ℕ) where
       ap (λ (v : Worked). answerAt (writeRefusal v st bits (length out)) (written v st bits) st) (w .worked)
       ∙ ap (λ (n : ℕ). answerAt n (written (Accepted c) st bits) st) (sendable-unrefused c w)
 
-  -- and what the lent labels are
-  pub sends-labels : (c : Settings) → Sendable st c bits out → labelsAfter st bits out ≡ labelsOf (Accepted c) st bits
-  unfolding labelsAfter
-  sends-labels c w =
-      ap (λ (v : Worked). cond (eqb (writeRefusal v st bits (length out)) 0) (labelsOf v st bits) out) (w .worked)
-      ∙ ap (λ (n : ℕ). cond (eqb n 0) (labelsOf (Accepted c) st bits) out) (sendable-unrefused c w)
+  -- a refused call answers the state as it was given
+  pub refused-keeps : (writtenOf st bits (length out) .refusal ≡ 0 → ⊥) → writtenOf st bits (length out) .state ≡ st
+  unfolding writtenOf
+  refused-keeps some = go (workedIn st) some
+    where
+      go :
+          (w : Worked) → (answerAt (writeRefusal w st bits (length out)) (written w st bits) st .refusal ≡ 0 → ⊥)
+          → answerAt (writeRefusal w st bits (length out)) (written w st bits) st .state ≡ st
+      go (Refused n) g = kept-state n (written (Refused n) st bits) st (λ e. e) g
+      go (Accepted c) g =
+          kept-state (writeRefusal (Accepted c) st bits (length out)) (written (Accepted c) st bits) st (λ e. refl) g
 
   -- it answers 0 to nothing else
   pub written-sendable : writtenOf st bits (length out) .refusal ≡ 0 → (c : Settings) × Sendable st c bits out
@@ -135,7 +152,7 @@ module _ (st : State) (bits out : List ℕ) where
 
 -- The reader.
 module _ (st : State) (labels bits : List ℕ) where
-  receivable-unrefused : (c : Settings) → Receivable st c labels bits → readRefusal (Accepted c) st labels (length bits) ≡ 0
+  pub receivable-unrefused : (c : Settings) → Receivable st c labels bits → readRefusal (Accepted c) st labels (length bits) ≡ 0
   receivable-unrefused c r =
       passed-over _ _ _ (fit-passes st (r .held) (r .turn))
       ∙ (passed-over _ _ _ (exact-passes c (length bits) (length labels) (r .size) (r .count))
@@ -143,7 +160,7 @@ module _ (st : State) (labels bits : List ℕ) where
       ∙ (passed-over _ _ _ (ap not (r .numbers))
       ∙ (passed-over _ _ _ (ap not (r .steps)) ∙ no-tests))))
 
-  unrefused-receivable :
+  pub unrefused-receivable :
       (c : Settings) → workedIn st ≡ Accepted c → readRefusal (Accepted c) st labels (length bits) ≡ 0 → Receivable st c labels bits
   unrefused-receivable c e e₁ =
       let e₂ = none-rest _ _ _ e₁ in
@@ -170,12 +187,17 @@ module _ (st : State) (labels bits : List ℕ) where
       ap (λ (v : Worked). answerAt (readRefusal v st labels (length bits)) (received v st labels) st) (r .worked)
       ∙ ap (λ (n : ℕ). answerAt n (received (Accepted c) st labels) st) (receivable-unrefused c r)
 
-  -- and what the lent bits are
-  pub receives-bits : (c : Settings) → Receivable st c labels bits → bitsAfter st labels bits ≡ bitsOf (Accepted c) st labels
-  unfolding bitsAfter
-  receives-bits c r =
-      ap (λ (v : Worked). cond (eqb (readRefusal v st labels (length bits)) 0) (bitsOf v st labels) bits) (r .worked)
-      ∙ ap (λ (n : ℕ). cond (eqb n 0) (bitsOf (Accepted c) st labels) bits) (receivable-unrefused c r)
+  -- a refused call answers the state as it was given
+  pub refused-read-keeps : (readOf st labels (length bits) .refusal ≡ 0 → ⊥) → readOf st labels (length bits) .state ≡ st
+  unfolding readOf
+  refused-read-keeps some = go (workedIn st) some
+    where
+      go :
+          (w : Worked) → (answerAt (readRefusal w st labels (length bits)) (received w st labels) st .refusal ≡ 0 → ⊥)
+          → answerAt (readRefusal w st labels (length bits)) (received w st labels) st .state ≡ st
+      go (Refused n) g = kept-state n (received (Refused n) st labels) st (λ e. e) g
+      go (Accepted c) g =
+          kept-state (readRefusal (Accepted c) st labels (length bits)) (received (Accepted c) st labels) st (λ e. refl) g
 
   -- it answers 0 to nothing else
   pub read-receivable : readOf st labels (length bits) .refusal ≡ 0 → (c : Settings) × Receivable st c labels bits

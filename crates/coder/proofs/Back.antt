@@ -3,7 +3,7 @@
 -- can write from that state. Assumes nothing.
 use mathlib.Core.List.{List}
 use mathlib.Core.Logic.{_↔_}
-use mathlib.Core.Path.{_≡_, refl, sym, ap, subst, _∙_}
+use mathlib.Core.Path.{_≡_, refl, sym, ap, ap₂, subst, _∙_}
 use Prim.Native.Nat.{ℕ, _^_, _≤_, _<_}
 use lib.ListN.{length, replicate, length-replicate}
 use Rattle.line.specs.declared.settings.Settings.{Settings}
@@ -11,10 +11,12 @@ use Rattle.line.specs.declared.settings.Worked.the-variants.{Accepted}
 use Rattle.coder.specs.declared.states.State.{State}
 use Rattle.coder.specs.declared.states.Coded.{Coded}
 use Rattle.coder.specs.State.{workedIn}
-use Rattle.coder.specs.Answers.{movedOn, written, received, labelsOf, bitsOf, writtenOf, labelsAfter, readOf, bitsAfter, Sendable, Receivable}
+use Rattle.coder.specs.Answers.{coded as answered, written, received, labelsOf, bitsOf, writtenOf, labelsAfter, readOf, bitsAfter}
+use Rattle.coder.specs.Answers.{Sendable, Receivable}
 use Rattle.coder.proofs.Sent.{Sent, sent}
 use Rattle.coder.proofs.Received.{Received, received as read-data}
-use Rattle.coder.proofs.Acceptance.{settings-sound, sends, sends-labels, written-sendable, receives, receives-bits, read-receivable}
+use Rattle.coder.proofs.Acceptance.{settings-sound, sendable-unrefused, sends, written-sendable}
+use Rattle.coder.proofs.Acceptance.{receivable-unrefused, receives, read-receivable}
 
 -- Reading what was written.
 
@@ -25,8 +27,8 @@ pub record ReadBack (st : State) (bits out buffer : List ℕ) : Type 0 where
 
 -- bits that the writer can send, with settings c
 module _ (st : State) (c : Settings) (bits out : List ℕ) (w : Sendable st c bits out) where
-  coded : Sent c (st .register) (st .z) bits (labelsOf (Accepted c) st bits)
-  coded = sent c (settings-sound st c (w .worked)) (st .register) (st .z) (w .held) (w .turn) bits (w .binary) (w .size)
+  sent-data : Sent c (st .register) (st .z) bits (labelsOf (Accepted c) st bits)
+  sent-data = sent c (settings-sound st c (w .worked)) (st .register) (st .z) (w .held) (w .turn) bits (w .binary) (w .size)
 
   -- the reader can receive their labels, and answers the same
   coded-receivable : (buffer : List ℕ) → length buffer ≡ length bits → Receivable st c (labelsOf (Accepted c) st bits) buffer
@@ -35,25 +37,24 @@ module _ (st : State) (c : Settings) (bits out : List ℕ) (w : Sendable st c bi
         worked = w .worked;
         held = w .held;
         turn = w .turn;
-        count = coded .size;
+        count = sent-data .size;
         size = e ∙ w .size;
-        ranges = coded .ranges;
-        numbers = coded .numbers;
-        steps = coded .steps;
+        ranges = sent-data .ranges;
+        numbers = sent-data .numbers;
+        steps = sent-data .steps;
       }
 
   same-read : received (Accepted c) st (labelsOf (Accepted c) st bits) ≡ written (Accepted c) st bits
-  same-read = λ i. record { refusal = 0; bits = c .bits; state = movedOn st (coded .registers i) (coded .turns i) }
+  same-read = ap₂ (answered c st) (sent-data .registers) (sent-data .turns)
 
   coded-back : (buffer : List ℕ) → length buffer ≡ length bits → ReadBack st bits out buffer
+  unfolding labelsAfter bitsAfter
   coded-back buffer e =
       record {
         answer =
-            ap (λ (l : List ℕ). readOf st l (length buffer)) (sends-labels st bits out c w)
-            ∙ (receives st (labelsOf (Accepted c) st bits) buffer c r ∙ (same-read ∙ sym (sends st bits out c w)));
-        bits-back =
-            ap (λ (l : List ℕ). bitsAfter st l buffer) (sends-labels st bits out c w)
-            ∙ (receives-bits st (labelsOf (Accepted c) st bits) buffer c r ∙ coded .back);
+            rw (w .worked, sendable-unrefused st bits out c w)
+            (receives st (labelsOf (Accepted c) st bits) buffer c r ∙ (same-read ∙ sym (sends st bits out c w)));
+        bits-back = rw (w .worked, sendable-unrefused st bits out c w, receivable-unrefused st _ buffer c r) (sent-data .back);
       }
     where
       r : Receivable st c (labelsOf (Accepted c) st bits) buffer
@@ -64,10 +65,10 @@ module _ (st : State) (c : Settings) (bits out : List ℕ) (w : Sendable st c bi
   next-worked = ap (λ (r : Coded). workedIn (r .state)) (sends st bits out c w) ∙ w .worked
 
   pub next-held : writtenOf st bits (length out) .state .register < 2 ^ 23
-  next-held = subst (λ (r : Coded). r .state .register < 2 ^ 23) (sym (sends st bits out c w)) (coded .register-below)
+  next-held = subst (λ (r : Coded). r .state .register < 2 ^ 23) (sym (sends st bits out c w)) (sent-data .register-below)
 
   pub next-turn : writtenOf st bits (length out) .state .z ≤ 3
-  next-turn = subst (λ (r : Coded). r .state .z ≤ 3) (sym (sends st bits out c w)) (coded .turn-most)
+  next-turn = subst (λ (r : Coded). r .state .z ≤ 3) (sym (sends st bits out c w)) (sent-data .turn-most)
 
 -- for every state, bits and buffers
 pub reading-back :
@@ -103,17 +104,16 @@ module _ (st : State) (c : Settings) (labels bits : List ℕ) (r : Receivable st
       }
 
   same-written : written (Accepted c) st (bitsOf (Accepted c) st labels) ≡ received (Accepted c) st labels
-  same-written = λ i. record { refusal = 0; bits = c .bits; state = movedOn st (decoded .registers i) (decoded .turns i) }
+  same-written = ap₂ (answered c st) (decoded .registers) (decoded .turns)
 
   decoded-back : (buffer : List ℕ) → length buffer ≡ length labels → WrittenBack st labels bits buffer
+  unfolding labelsAfter bitsAfter
   decoded-back buffer e =
       record {
         answer =
-            ap (λ (b : List ℕ). writtenOf st b (length buffer)) (receives-bits st labels bits c r)
-            ∙ (sends st (bitsOf (Accepted c) st labels) buffer c w ∙ (same-written ∙ sym (receives st labels bits c r)));
-        labels-back =
-            ap (λ (b : List ℕ). labelsAfter st b buffer) (receives-bits st labels bits c r)
-            ∙ (sends-labels st (bitsOf (Accepted c) st labels) buffer c w ∙ decoded .back);
+            rw (r .worked, receivable-unrefused st labels bits c r)
+            (sends st (bitsOf (Accepted c) st labels) buffer c w ∙ (same-written ∙ sym (receives st labels bits c r)));
+        labels-back = rw (r .worked, receivable-unrefused st labels bits c r, sendable-unrefused st _ buffer c w) (decoded .back);
       }
     where
       w : Sendable st c (bitsOf (Accepted c) st labels) buffer
@@ -152,3 +152,15 @@ reads-what-is-written st labels = (forth, back)
     back p =
         let b = reading-back st (p .0) (p .1) (p .0) (p .2) refl in
         (p .0, subst (λ (l : List ℕ). readOf st l (length (p .0)) .refusal ≡ 0) (p .3) (ap (λ (r : Coded). r .refusal) (b .answer) ∙ p .2))
+
+-- What the lent buffers then hold: the labels of the bits, and the bits of the labels.
+pub sends-labels :
+    (st : State) (bits out : List ℕ) (c : Settings) → Sendable st c bits out → labelsAfter st bits out ≡ labelsOf (Accepted c) st bits
+unfolding labelsAfter
+sends-labels st bits out c w = rw (w .worked, sendable-unrefused st bits out c w)
+
+pub receives-bits :
+    (st : State) (labels bits : List ℕ) (c : Settings) → Receivable st c labels bits
+    → bitsAfter st labels bits ≡ bitsOf (Accepted c) st labels
+unfolding bitsAfter
+receives-bits st labels bits c r = rw (r .worked, receivable-unrefused st labels bits c r)

@@ -1,15 +1,13 @@
--- Bytes tested one after the other: what holds of the test from byte i on, and that bytes which pass it are bits. Assumes nothing.
+-- Bytes tested one after the other: what holds of the test from byte i on. Assumes nothing.
 use mathlib.Core.Bool.{true, false, _&&_}
-use mathlib.Core.List.{List, [], _∷_}
+use mathlib.Core.List.{List}
 use mathlib.Core.Path.{_≡_, sym, ap, _∙_}
 use Prim.Native.Nat.{ℕ, _+_, _≤_, _<_}
 use native.Mathlib.Numerals.{add-one}
 use lib.Dec.{leb}
 use lib.ListN.{length, getD, drop, drop-of-length-le}
 use lib.Seq.{drop-cons}
-use borrow.Author.Tests.{leb-true, le-leb, lt-leb}
-use Rattle.laws.specs.Digits.{Bits}
-use Rattle.laws.proofs.Bools.{and-left, and-right}
+use borrow.Author.Tests.{le-leb, lt-leb}
 use Rattle.coder.specs.Answers.{allBits}
 
 -- byte i is tested, and then those after it
@@ -27,10 +25,3 @@ module _ (bytes : List ℕ) (i : ℕ) where
   pub no-byte : length bytes ≤ i → allBits (drop i bytes) ≡ true
   unfolding allBits
   no-byte h = ap allBits (drop-of-length-le bytes h)
-
--- bytes that pass are bits
-pub passed-bits : (bytes : List ℕ) → allBits bytes ≡ true → Bits bytes
-unfolding allBits
-passed-bits [] e = tt
-passed-bits (byte ∷ bytes) e =
-    (leb-true byte 1 (and-left (leb byte 1) (allBits bytes) e), passed-bits bytes (and-right (leb byte 1) (allBits bytes) e))

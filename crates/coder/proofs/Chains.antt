@@ -40,65 +40,75 @@ pub record AllUndone (one other : Direction) (st : State) (calls : List Call) (b
   pub back : buffersInTurn other st (allAgain one st calls buffers) ≡ givenOf calls
   pub last : lastState other st (allAgain one st calls buffers) ≡ lastState one st calls
 
-module _
-    (one other : Direction)
-    (undone :
+-- in every call that is accepted
+abbrev pub Undoes : Direction → Direction → Type 0
+Undoes one other =
     (st : State) (call : Call) (buffer : List ℕ) → one .answer st call .refusal ≡ 0 → length buffer ≡ length (call .given)
-    → Undone one other st call buffer)
-  where
-    all-undone :
-        (st : State) (calls : List Call) (buffers : List (List ℕ)) → AllAccepted one st calls → AsLong buffers calls
-        → AllUndone one other st calls buffers
-    unfolding callsOf buffersInTurn lastState
-    all-undone st [] [] done sizes = record { accepted = tt; back = refl; last = refl }
-    all-undone st [] (buffer ∷ buffers) done sizes = absurd sizes
-    all-undone st (call ∷ calls) [] done sizes = absurd sizes
-    all-undone st (call ∷ calls) (buffer ∷ buffers) done sizes =
-        go (all-undone (one .answer st call .state) calls buffers (done .1) (sizes .1))
-      where
-        -- the calls after the first
-        rest : List Call
-        rest = allAgain one (one .answer st call .state) calls buffers
+    → Undone one other st call buffer
 
-        u : Undone one other st call buffer
-        u = undone st call buffer (done .0) (sizes .0)
+pub reads-undo : Undoes writing reading
+reads-undo st call buffer done size =
+    let b = reading-back st (call .given) (call .lent) buffer done size in
+    record { same = b .answer; back = b .bits-back }
 
-        go : AllUndone one other (one .answer st call .state) calls buffers → AllUndone one other st (call ∷ calls) (buffer ∷ buffers)
-        go later =
-            record {
-              accepted = (
-                ap (λ (r : Coded). r .refusal) (u .same) ∙ done .0,
-                subst (λ (r : Coded). AllAccepted other (r .state) rest) (sym (u .same)) (later .accepted),
-              );
-              back = ap₂ _∷_ (u .back) (ap (λ (r : Coded). buffersInTurn other (r .state) rest) (u .same) ∙ later .back);
-              last = ap (λ (r : Coded). lastState other (r .state) rest) (u .same) ∙ later .last;
-            }
+pub writes-undo : Undoes reading writing
+writes-undo st call buffer done size =
+    let b = writing-back st (call .given) (call .lent) buffer done size in
+    record { same = b .answer; back = b .labels-back }
+
+module _ (one other : Direction) (undone : Undoes one other) where
+  all-undone :
+      (st : State) (calls : List Call) (buffers : List (List ℕ)) → AllAccepted one st calls → AsLong buffers calls
+      → AllUndone one other st calls buffers
+  unfolding callsOf buffersInTurn lastState
+  all-undone st [] [] done sizes = record { accepted = tt; back = refl; last = refl }
+  all-undone st [] (buffer ∷ buffers) done sizes = absurd sizes
+  all-undone st (call ∷ calls) [] done sizes = absurd sizes
+  all-undone st (call ∷ calls) (buffer ∷ buffers) done sizes =
+      go (all-undone (one .answer st call .state) calls buffers (done .1) (sizes .1))
+    where
+      -- the calls after the first
+      rest : List Call
+      rest = allAgain one (one .answer st call .state) calls buffers
+
+      u : Undone one other st call buffer
+      u = undone st call buffer (done .0) (sizes .0)
+
+      go : AllUndone one other (one .answer st call .state) calls buffers → AllUndone one other st (call ∷ calls) (buffer ∷ buffers)
+      go later =
+          record {
+            accepted = (
+              ap (λ (r : Coded). r .refusal) (u .same) ∙ done .0,
+              subst (λ (r : Coded). AllAccepted other (r .state) rest) (sym (u .same)) (later .accepted),
+            );
+            back = ap₂ _∷_ (u .back) (ap (λ (r : Coded). buffersInTurn other (r .state) rest) (u .same) ∙ later .back);
+            last = ap (λ (r : Coded). lastState other (r .state) rest) (u .same) ∙ later .last;
+          }
 
 -- reading all that was written
 pub read-in-turn :
     (st : State) (calls : List Call) (buffers : List (List ℕ)) → AllAccepted writing st calls → AsLong buffers calls
     → AllUndone writing reading st calls buffers
-read-in-turn =
-    all-undone writing reading
-    (λ st call buffer done size.
-    let b = reading-back st (call .given) (call .lent) buffer done size in
-    record { same = b .answer; back = b .bits-back })
+read-in-turn = all-undone writing reading reads-undo
 
 -- writing all that was read
 pub write-in-turn :
     (st : State) (calls : List Call) (buffers : List (List ℕ)) → AllAccepted reading st calls → AsLong buffers calls
     → AllUndone reading writing st calls buffers
-write-in-turn =
-    all-undone reading writing
-    (λ st call buffer done size.
-    let b = writing-back st (call .given) (call .lent) buffer done size in
-    record { same = b .answer; back = b .labels-back })
+write-in-turn = all-undone reading writing writes-undo
 
 -- a call that gives the bits of a data frame, and lends the writer room for its labels
 pub record Fills (c : Settings) (call : Call) : Type 0 where
   pub size : length (call .given) ≡ c .bits
   pub room : length (call .lent) ≡ 16 * c .frames
   pub binary : Bits (call .given)
+
+-- the writer can send it, from a state that is fit
+pub fills-sendable :
+    (st : State) (c : Settings) → workedIn st ≡ Accepted c → st .register < 2 ^ 23 → st .z ≤ 3
+    → (call : Call) → Fills c call → Sendable st c (call .given) (call .lent)
+fills-sendable st c worked held turn call fills =
+    record { worked = worked; held = held; turn = turn; binary = fills .binary; size = fills .size; labels = fills .room }
 
 -- every such call is accepted in turn, as the state stays fit
 pub all-written :
@@ -111,12 +121,4 @@ all-written st c worked held turn (call ∷ calls) h = (
 )
   where
     w : Sendable st c (call .given) (call .lent)
-    w =
-        record {
-          worked = worked;
-          held = held;
-          turn = turn;
-          binary = h .0 .binary;
-          size = h .0 .size;
-          labels = h .0 .room;
-        }
+    w = fills-sendable st c worked held turn call (h .0)

@@ -5,7 +5,8 @@
 --     Outcomes      at most one outcome fits each contract
 --     Acceptance    when the writer and the reader answer 0, and what they answer then
 --     Back          writer and reader undo each other, from every state
---     Held          the reader's register holds the last 23 scrambled bits
+--     Starting      which starts answer 0, and what follows from a start
+--     Held          what the next state holds: the register the last 23 scrambled bits, Z the last Z among the labels
 --     Chains        data frames in a row
 -- and what the proofs of several functions share,
 --     Bytes         bytes tested one after the other
@@ -21,8 +22,10 @@ pub mod Received
 pub mod Outcomes
 pub mod Acceptance
 pub mod Back
+pub mod Starting
 pub mod Held
 pub mod Chains
+pub mod Demand2
 pub mod Bytes
 pub mod Sends
 pub mod Writes

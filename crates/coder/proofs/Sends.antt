@@ -18,8 +18,9 @@ use Rattle.line.specs.Switching.{isHigh, counterAfter, frameBits, frameLengths,
 use Rattle.line.specs.declared.settings.Settings.{Settings}
 use Rattle.line.proofs.Soundness.{Sound}
 use Rattle.frame.specs.Shape.{lengthOf}
-use Rattle.frame.specs.Writing.{Writing, symbolLabels, afterSymbol, frameLabels, frameTurned}
+use Rattle.frame.specs.Writing.{afterSymbol, frameLabels, frameTurned}
 use Rattle.frame.specs.declared.shape.Shape.{Shape}
+use Rattle.frame.proofs.Frames.{sixteen-labels as emitted-sixteen}
 use Rattle.frame.proofs.Lengths.{ShapeFits, next-fits}
 use Rattle.frame.proofs.Small.{turned-small}
 use Rattle.scrambler.specs.Parts.{Scrambled}
@@ -30,14 +31,10 @@ use Rattle.coder.specs.declared.states.Moved.{Moved}
 use Rattle.coder.specs.Frames.{FrameSendable, FrameSent}
 use Rattle.coder.specs.Sending.{Sending, ringCount, shapeNext, lengthNext, nextLabels, afterLabels, sendingOf, dataLabels, dataRegister, dataTurned}
 
--- a symbol has four labels, a frame sixteen
-four : (q : ℕ) (w : Writing) → length (symbolLabels q w) ≡ 4
-unfolding symbolLabels
-four q w = refl
-
-sixteen-labels : (M : ℕ) (shape : Shape) (z : ℕ) (bits : List ℕ) → length (frameLabels M shape z bits) ≡ 16
+-- a frame has sixteen labels
+pub sixteen-labels : (M : ℕ) (shape : Shape) (z : ℕ) (bits : List ℕ) → length (frameLabels M shape z bits) ≡ 16
 unfolding frameLabels
-sixteen-labels M shape z bits = emit-length (symbolLabels (shape .uncoded)) (afterSymbol (shape .uncoded)) 4 (four (shape .uncoded)) 4 _
+sixteen-labels M shape z bits = emitted-sixteen (shape .uncoded) _
 
 pub sent-sixteen :
     {M role : ℕ} {shape : Shape} {moved after : Moved} {bits labels : List ℕ}

@@ -1,15 +1,13 @@
 -- The writer's answer, by its three ways: the settings are refused, a later test refuses, or the data frame is sent. A refused set of
 -- settings has a number above 0, so that no buffer is then taken for written. Assumes nothing.
-use mathlib.Core.Bool.{Bool, true, false, cond, _||_}
+use mathlib.Core.Bool.{Bool, true, false, cond}
 use mathlib.Core.List.{List}
-use mathlib.Core.Path.{_≡_, refl, _∙_}
-use Prim.Native.Nat.{ℕ, _*_, _^_}
+use mathlib.Core.Path.{_≡_, refl, ap₂, _∙_}
+use Prim.Native.Nat.{ℕ}
 use native.Mathlib.Omega.{arith}
-use lib.Dec.{leb, ltb, eqb}
+use lib.Dec.{eqb}
 use lib.ListN.{length}
-use borrow.Author.Tests.{ne-eqb, eqb-true, leb-false, ltb-false}
-use Rattle.laws.proofs.Bools.{and-left, and-right, not-not}
-use Rattle.laws.proofs.Choices.{none-first, none-rest}
+use borrow.Author.Tests.{ne-eqb}
 use Rattle.line.specs.Rates.{symbolRate}
 use Rattle.line.specs.Settings.{settingsRefusal, acceptedOf, workedOf}
 use Rattle.line.specs.declared.rate.Rate.{Rate}
@@ -19,10 +17,9 @@ use Rattle.line.specs.declared.settings.Worked.the-variants.{Accepted, Refused}
 use Rattle.coder.specs.declared.states.State.{State}
 use Rattle.coder.specs.declared.states.Coded.{Coded}
 use Rattle.coder.specs.declared.states.Moved.{Moved}
-use Rattle.coder.specs.State.{workedIn, unfit}
+use Rattle.coder.specs.State.{workedIn}
 use Rattle.coder.specs.Sending.{dataLabels, dataRegister, dataTurned}
-use Rattle.coder.specs.Answers.{allBits, exact, movedOn, writeRefusal, writtenOf, labelsAfter, WriteAnswer, Sendable}
-use Rattle.coder.proofs.Bytes.{passed-bits}
+use Rattle.coder.specs.Answers.{coded, writeRefusal, writtenOf, labelsAfter, WriteAnswer}
 
 -- refused settings have a number that is not 0
 pub refused-some : (role s n shaping mark number : ℕ) → workedOf role s n shaping mark ≡ Refused number → eqb number 0 ≡ false
@@ -40,11 +37,6 @@ refused-some role s n shaping mark number e = go (eqb (settingsRefusal role s n 
 -- a refused call
 abbrev pub refusedWith : ℕ → State → Coded
 refusedWith number st = record { refusal = number; bits = 0; state = st }
-
--- neither part holds
-neither : (a b : Bool) → (a || b) ≡ false → (a ≡ false) × (b ≡ false)
-neither true b e = absurd (let z : _≡_ {A = ℕ} 0 1 = cc in omega arith)
-neither false b e = (refl, e)
 
 module _ (st : State) (bits out : List ℕ) where
   -- the settings are refused
@@ -68,29 +60,14 @@ module _ (st : State) (bits out : List ℕ) where
         record { answer = is-refused ∙ rw (worked, ← is-number, e); buffer = rw (worked, ← is-number, e) }
 
     module _ (none : writeRefusal (Accepted c) st bits (length out) ≡ 0) where
-      -- no test refuses: the data frame can be sent
-      pub send-able : Sendable st c bits out
-      send-able =
-          let rest = none-rest (unfit st) 6 _ none in
-          let fit = neither (leb (2 ^ 23) (st .register)) (ltb 3 (st .z)) (none-first (unfit st) 6 _ none) in
-          let lengths = not-not (exact c (length bits) (length out)) (none-first _ 7 _ rest) in
-          record {
-            worked = worked;
-            held = leb-false (2 ^ 23) (st .register) (fit .0);
-            turn = ltb-false 3 (st .z) (fit .1);
-            binary = passed-bits bits (not-not (allBits bits) (none-first _ 8 _ (none-rest _ 7 _ rest)));
-            size = eqb-true _ _ (and-left (eqb (length bits) (c .bits)) (eqb (length out) (16 * c .frames)) lengths);
-            labels = eqb-true _ _ (and-right (eqb (length bits) (c .bits)) (eqb (length out) (16 * c .frames)) lengths);
-          }
-
-      -- and its answer is N and the next state
+      -- no test refuses: the answer is N and the next state
       pub frame-sent :
-          (moved : Moved) (next : State) (after : List ℕ)
+          (moved : Moved) (r : Coded) (after : List ℕ)
           → moved .register ≡ dataRegister c (st .register) bits
           → moved .z ≡ dataTurned c (st .register) (st .z) bits
-          → next ≡ movedOn st (moved .register) (moved .z)
+          → r ≡ coded c st (moved .register) (moved .z)
           → after ≡ dataLabels c (st .register) (st .z) bits
-          → WriteAnswer st bits out (record { refusal = 0; bits = c .bits; state = next }) after
+          → WriteAnswer st bits out r after
       unfolding writtenOf labelsAfter
-      frame-sent moved next after is-register is-z is-next is-after =
-          record { answer = rw (worked, none, is-next, is-register, is-z); buffer = is-after ∙ rw (worked, none) }
+      frame-sent moved r after is-register is-z is-coded is-after =
+          record { answer = is-coded ∙ (ap₂ (coded c st) is-register is-z ∙ rw (worked, none)); buffer = is-after ∙ rw (worked, none) }

@@ -14,8 +14,8 @@ use crate::starts::is_unfit;
 use crate::states::Coded;
 use crate::states::Moved;
 use crate::states::State;
+use crate::writer::done;
 use crate::writer::is_exact;
-use crate::writer::moved_on;
 use crate::writer::refused;
 use frame::check::in_range;
 use frame::check::number_fits;
@@ -200,6 +200,7 @@ fn receive(st: State, c: Settings, labels: &[u16], numbers: &[u64], bits: &mut [
     ensures { λ r. ⌜ now (bits .exit) ≡ dataBits c (st .register) (st .z) (now (labels .entry)) ⌝ }
     ensures { λ r. ⌜ (r .register ≡ dataReadRegister c (st .register) (st .z) (now (labels .entry))) × (r .z ≡ dataReadTurned c (st .z) (now (labels .entry))) ⌝ }
 {
+    let frames = c.frames as usize;
     let mut moved = Moved {
         register: st.register,
         z: st.z,
@@ -207,7 +208,7 @@ fn receive(st: State, c: Settings, labels: &[u16], numbers: &[u64], bits: &mut [
     let mut counter = 0;
     let mut at = 0;
     let mut k = 0;
-    while k < c.frames as usize {
+    while k < frames {
         let next = next_of(c, counter);
         let end = at + next.size;
         moved = receive_frame(
@@ -241,9 +242,5 @@ pub fn read(st: State, labels: &[u16], bits: &mut [u8]) -> Coded
         return refused(refusal, st);
     }
     let moved = receive(st, c, labels, &numbers, bits);
-    Coded {
-        refusal: 0,
-        bits: c.bits,
-        state: moved_on(st, moved),
-    }
+    done(c, st, moved)
 }

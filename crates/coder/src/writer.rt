@@ -5,7 +5,7 @@ ghost use lib.ListN.{length};
 ghost use Rattle.frame.specs.Shape.{lengthOf};
 ghost use Rattle.line.specs.declared.settings.Worked.the-variants.{Accepted};
 ghost use Rattle.rings.specs.Counts.{Rows};
-ghost use Rattle.coder.specs.Answers.{WriteAnswer, Sendable, allBits, exact, movedOn, writeRefusal};
+ghost use Rattle.coder.specs.Answers.{WriteAnswer, Sendable, allBits, exact, movedOn, coded, writeRefusal};
 ghost use Rattle.coder.specs.Frames.{FrameSendable, FrameSent};
 ghost use Rattle.coder.specs.Sending.{dataLabels, dataRegister, dataTurned};
 use crate::starts::is_unfit;
@@ -180,6 +180,17 @@ pub fn moved_on(st: State, moved: Moved) -> State
     }
 }
 
+// A coded data frame: N bits, and the state moved on.
+pub fn done(c: Settings, st: State, moved: Moved) -> Coded
+    ensures { λ r. ⌜ r ≡ coded c st (moved .register) (moved .z) ⌝ }
+{
+    Coded {
+        refusal: 0,
+        bits: c.bits,
+        state: moved_on(st, moved),
+    }
+}
+
 // The labels of a data frame's bits, and the next state.
 pub fn write(st: State, bits: &[u8], out: &mut [u16]) -> Coded
     ensures { λ r. ⌜ WriteAnswer st (now (bits .entry)) (now (out .entry)) r (now (out .exit)) ⌝ }
@@ -193,9 +204,5 @@ pub fn write(st: State, bits: &[u8], out: &mut [u16]) -> Coded
         return refused(refusal, st);
     }
     let moved = send(st, c, bits, out);
-    Coded {
-        refusal: 0,
-        bits: c.bits,
-        state: moved_on(st, moved),
-    }
+    done(c, st, moved)
 }

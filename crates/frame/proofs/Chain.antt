@@ -18,7 +18,7 @@ use Rattle.laws.proofs.Bools.{and-parts}
 use Rattle.laws.proofs.Digitals.{bits-append, bits-drop}
 use Rattle.frame.specs.declared.symbol.Symbol.{Symbol}
 use Rattle.frame.specs.Shape.{symbolLength}
-use Rattle.frame.specs.Writing.{Writing, symbolOf, turned, nextSymbol, symbolLabels, afterSymbol}
+use Rattle.frame.specs.Writing.{Writing, symbolOf, turned, nextSymbol, fourNumbers, symbolLabels, afterSymbol}
 use Rattle.frame.specs.Reading.{Reading, symbolRead, symbolBits, readBits, afterRead, ringsRead, inRange, stepsFit}
 use Rattle.frame.proofs.Symbols.{Ranged, of-ranged, bits-of, length-symbolBits, bits-symbolBits, of-bits, fourLabels, ring-of, turned-most, read-labels, label-below, step-fits, read-ranged, turned-read, labels-read}
 
@@ -97,7 +97,7 @@ module _ (M q : ℕ) where
   written-next :
       (k : ℕ) (w : Writing) (labels : List ℕ) → Left M q (suc k) w → SymbolsWritten M q k (afterSymbol q w) labels
       → SymbolsWritten M q (suc k) w (symbolLabels q w ++ labels)
-  unfolding symbolLabels afterSymbol inRange ringsRead stepsFit emit iter readBits afterRead symbolsLength
+  unfolding symbolLabels fourNumbers afterSymbol inRange ringsRead stepsFit emit iter readBits afterRead symbolsLength
   written-next k w labels l rest =
       record {
         size = omega (arith, rest .size);
@@ -214,7 +214,7 @@ module _ (M q k : ℕ) (a b next one : ℕ) (labels : List ℕ) (threes z : ℕ)
   read-next :
       (bits : List ℕ) → Told M q (suc k) whole → SymbolsRead M q k others bits
       → SymbolsRead M q (suc k) whole (readBits q whole ++ bits)
-  unfolding readBits symbolsLength ringsRead emit iter symbolLabels afterSymbol afterRead
+  unfolding readBits symbolsLength ringsRead emit iter symbolLabels fourNumbers afterSymbol afterRead
   read-next bits t rest =
       record {
         binary = bits-append (symbolBits q three s) bits (bits-symbolBits q three s ranged) (rest .binary);

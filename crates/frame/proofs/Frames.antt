@@ -1,7 +1,7 @@
 -- What the loop of `write_frame` holds: the labels of j symbols stand in the output, and the bits, the rings, the symbols with I3 and Z
 -- that are left are those that the specs say. Assumes nothing.
 use mathlib.Core.Bool.{Bool, true, false, cond}
-use mathlib.Core.List.{List, [], _∷_}
+use mathlib.Core.List.{List, [], _++_}
 use mathlib.Core.Path.{_≡_, refl, sym, ap, _∙_}
 use Prim.Native.Nat.{ℕ, suc, _+_, _*_, _-_, _^_, _≤_, _<_}
 use native.Mathlib.Nat.{sub-zero, add-zero, suc-mul}
@@ -18,7 +18,7 @@ use Rattle.listing.specs.Number.{ringsOf}
 use Rattle.listing.specs.Sets.{Eight, Below8, asList}
 use Rattle.listing.proofs.Agree.{rings-below}
 use Rattle.frame.specs.Shape.{symbolLength, frameLength}
-use Rattle.frame.specs.Writing.{Writing, symbolOf, turned, symbolLabels, afterSymbol, frameStart, frameLabels, frameTurned}
+use Rattle.frame.specs.Writing.{Writing, symbolOf, turned, fourNumbers, symbolLabels, afterSymbol, frameStart, frameLabels, frameTurned}
 use Rattle.frame.specs.declared.shape.Shape.{Shape}
 use Rattle.frame.specs.declared.symbol.Symbol.{Symbol}
 use Rattle.frame.proofs.Small.{turned-small}
@@ -65,10 +65,10 @@ ring-small M S ring is-ring high below i =
 
 -- a symbol has four labels, and a frame sixteen
 four : (q : ℕ) (w : Writing) → length (symbolLabels q w) ≡ 4
-unfolding symbolLabels
+unfolding symbolLabels fourNumbers
 four q w = refl
 
-sixteen-labels : (q : ℕ) (w : Writing) → length (emit (symbolLabels q) (afterSymbol q) 4 w) ≡ 16
+pub sixteen-labels : (q : ℕ) (w : Writing) → length (emit (symbolLabels q) (afterSymbol q) 4 w) ≡ 16
 sixteen-labels q w = emit-length (symbolLabels q) (afterSymbol q) 4 (four q) 4 w
 
 module _ (shape : Shape) (bits ring : List ℕ) where
@@ -83,7 +83,7 @@ module _ (shape : Shape) (bits ring : List ℕ) where
       → first ≡ 2 ^ shape .uncoded * getD ring (2 * j) 0 + symbol .first
       → second ≡ 2 ^ shape .uncoded * getD ring (2 * j + 1) 0 + symbol .second
       → z' ≡ turned z symbol
-      → first ∷ second ∷ z' ∷ symbol .i1 ∷ [] ≡ symbolLabels (shape .uncoded) (leftOf at z j)
+      → fourNumbers first second z' (symbol .i1) ≡ symbolLabels (shape .uncoded) (leftOf at z j)
   unfolding symbolLabels
   next-labels at z j first second z' symbol is-next is-first is-second is-turned =
       rw (is-turned, is-first, is-second, is-next, still) (simp (getD-drop, add-zero))
@@ -142,9 +142,10 @@ module _ {shape : Shape} {bits ring : List ℕ} {z₀ at z j : ℕ} {out : List 
         → first ≡ 2 ^ shape .uncoded * getD ring (2 * j) 0 + symbol .first
         → second ≡ 2 ^ shape .uncoded * getD ring (2 * j + 1) 0 + symbol .second
         → z' ≡ turned z symbol
-        → after ≡ put (4 * j) (first ∷ second ∷ z' ∷ symbol .i1 ∷ []) out
+        → after ≡ take (4 * j) out ++ (fourNumbers first second z' (symbol .i1) ++ drop (4 * j + 4) out)
         → at' ≡ at + symbolLength (shape .uncoded) (ltb j (shape .threes))
         → Halfway shape bits ring z₀ after at' z' (j + 1)
+    unfolding fourNumbers
     halfway-more first second at' z' symbol after is-next is-first is-second is-turned is-put is-at =
         let labels = next-labels shape bits ring at z j first second z' symbol is-next is-first is-second is-turned in
         record {

@@ -40,6 +40,10 @@ pub record Writing : Type 0 where
   pub threes : ℕ
   pub z : ℕ
 
+-- the four numbers that are written for a symbol, in their order: both 2D labels, Z, I1
+unfoldable pub fourNumbers : ℕ → ℕ → ℕ → ℕ → List ℕ
+fourNumbers first second z i1 = first ∷ second ∷ z ∷ i1 ∷ []
+
 -- the next symbol, its four labels, and what is left then
 abbrev pub nextSymbol : ℕ → Writing → Symbol
 nextSymbol q w = symbolOf q (ltb 0 (w .threes)) (w .bits)
@@ -47,11 +51,11 @@ nextSymbol q w = symbolOf q (ltb 0 (w .threes)) (w .bits)
 unfoldable pub symbolLabels : ℕ → Writing → List ℕ
 symbolLabels q w =
     let symbol = nextSymbol q w in
+    fourNumbers
     (2 ^ q * getD (w .rings) 0 0 + symbol .first)
-    ∷ (2 ^ q * getD (w .rings) 1 0 + symbol .second)
-    ∷ turned (w .z) symbol
-    ∷ symbol .i1
-    ∷ []
+    (2 ^ q * getD (w .rings) 1 0 + symbol .second)
+    (turned (w .z) symbol)
+    (symbol .i1)
 
 unfoldable pub afterSymbol : ℕ → Writing → Writing
 afterSymbol q w =

@@ -1,10 +1,10 @@
 // Writing one mapping frame.
-ghost use mathlib.Core.List.{[], _∷_, _++_};
+ghost use mathlib.Core.List.{_++_};
 ghost use mathlib.Core.Path.{_≡_};
 ghost use Prim.Native.Nat.{_+_, _*_, _^_, _≤_, _<_};
 ghost use lib.ListN.{length, take, drop};
 ghost use Rattle.rings.specs.Counts.{Rows};
-ghost use Rattle.frame.specs.Writing.{frameLabels, frameTurned, Writable};
+ghost use Rattle.frame.specs.Writing.{fourNumbers, frameLabels, frameTurned, Writable};
 use crate::bits::value_at;
 use crate::shape::Shape;
 use crate::symbol::Symbol;
@@ -24,7 +24,7 @@ fn label(q: usize, ring: u8, low: u64) -> u16
 // Four labels, from `at` on.
 fn put_four(out: &mut [u16], at: usize, a: u16, b: u16, c: u16, d: u16)
     requires { ⌜ at + 4 ≤ length (now out) ⌝ }
-    ensures { λ _. ⌜ now (out .exit) ≡ take at (now (out .entry)) ++ ((a ∷ b ∷ c ∷ d ∷ []) ++ drop (at + 4) (now (out .entry))) ⌝ }
+    ensures { λ _. ⌜ now (out .exit) ≡ take at (now (out .entry)) ++ (fourNumbers a b c d ++ drop (at + 4) (now (out .entry))) ⌝ }
 {
     out[at] = a;
     out[at + 1] = b;

@@ -7,9 +7,9 @@
 --     Listing     a graded family listed weight after weight: its numbers, and how many items stand before one
 --     Plain       the plain lists hold every set once, M^8 sets of eight
 --     Agree       counting and listing agree, for all M at once
+--     SameKeys    equal in all eight keys means the same set
 --     Formulas    clause 9.4's formulas (9-3) to (9-6)
 --     Steps       the counts of fours one after the other, by sums alone
---     Starred     the cases that document 01 marks as proved
 pub mod Halves
 pub mod Bounds
 pub mod CountLaws
@@ -18,6 +18,6 @@ pub mod Pairs
 pub mod Listing
 pub mod Plain
 pub mod Agree
+pub mod SameKeys
 pub mod Formulas
 pub mod Steps
-pub mod Starred

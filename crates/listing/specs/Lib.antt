@@ -3,9 +3,7 @@
 --     Order     the listing order, with no counts in it, and how many sets stand before a set
 --     Counts    g2, g4, g8 and z8
 --     Number    the eight rings that a number gives, and the number of eight rings
---     Cases     the cases of document 01 that are proved
 pub mod Sets
 pub mod Order
 pub mod Counts
 pub mod Number
-pub mod Cases

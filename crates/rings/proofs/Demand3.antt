@@ -1,29 +1,75 @@
--- Demand 3, over the definitions that the entries' contracts name, and that at most one outcome fits each contract.
---     mapped      for permitted K, M and S < 2^K: the mapping is done, S sets stand before the mapper's set, and the ranker gives S
---     ranked      for a set that the ranker accepts: its number is below 2^K, and the mapper gives the set back for it
---     refused     a set of rings below M that is numbered 2^K or above is refused with 11
---     cases       the starred cases of document 01, as the mapper answers them
+-- Demand 3, over the definitions that the entries' contracts name. First in document 01's own words, by how many sets of all below M stand
+-- before a set, and then each entry undone by the other. K and M are permitted, and x is a set of rings below M.
+--     maps-by-standing       for S < 2^K the mapping is done, and the mapper's set is x exactly when S sets stand before x
+--     ranks-by-standing      the ranker gives S for x exactly when S sets stand before x and S < 2^K
+--     refuses-by-standing    the ranker refuses x with 11 exactly when 2^K sets or more stand before x
+--     mapped                 for S < 2^K: the mapping is done, S sets stand before the mapper's set, and the ranker gives S
+--     ranked                 for a set that the ranker accepts: its number is below 2^K, and the mapper gives the set back for it
+--     refused                a set before which 2^K sets or more stand is refused with 11
+--     map-once, rank-once    at most one outcome fits each contract
 -- Assumes nothing.
-use mathlib.Core.Bool.{true}
-use mathlib.Core.List.{List, [], _∷_}
-use mathlib.Core.Path.{_≡_, refl, sym, ap, ap₂, subst, _∙_}
-use Prim.Native.Nat.{ℕ, zero, suc, _^_, _≤_, _<_}
+use mathlib.Core.List.{List}
+use mathlib.Core.Logic.{_↔_}
+use mathlib.Core.Path.{_≡_, refl, sym, ap, _∙_}
+use Prim.Native.Nat.{ℕ, _^_, _≤_, _<_}
 use native.Mathlib.Nat.{lt-of-lt-of-le}
 use native.Mathlib.Omega.{arith}
-use lib.Dec.{leb}
 use lib.ListN.{length}
 use borrow.Author.Tests.{le-leb}
-use Rattle.laws.proofs.Choices.{given}
+use Rattle.laws.specs.Choice.{refusal}
 use Rattle.listing.specs.Sets.{Eight, Below8, asList, ofList}
 use Rattle.listing.specs.Order.{standing}
-use Rattle.listing.specs.Number.{ringsOf, number}
-use Rattle.listing.proofs.Agree.{rings-below, number-of-rings, rings-of-number, standing-is-number, number-below-all}
-use Rattle.rings.specs.Answers.{Permitted, allBelow, mappedRings, mapRefusal, mapOut, MapAnswer, rankedOf}
+use Rattle.listing.specs.Number.{ringsOf}
+use Rattle.listing.proofs.Agree.{rings-below, counting-is-listing, standing-is-number}
+use Rattle.rings.specs.Answers.{Permitted, mappedRings, mapRefusal, mapOut, MapAnswer, rankRefusal, rankedOf}
 use Rattle.rings.specs.declared.entry.Ranked.{Ranked}
-use Rattle.rings.proofs.Answering.{Accepted, map-accepts, map-done, rank-accepted, rank-accepts, rank-last, rank-answer}
-use Rattle.rings.proofs.Tests.{below-all, all-below, ofList-asList, asList-ofList}
+use Rattle.rings.proofs.Acceptance.{mapper-accepts, ranker-accepts}
+use Rattle.rings.proofs.Tests.{is-permitted, below-all, ofList-asList, asList-ofList}
 
 module _ (K M : ℕ) where
+  pub maps-by-standing :
+      (S : ℕ) (out : List ℕ) (x : Eight) → Permitted K M → length out ≡ 8 → S < 2 ^ K → Below8 M x
+      → (mapRefusal K M S (length out) ≡ 0) × ((mapOut K M S out ≡ asList x) ↔ (standing M x ≡ S))
+  unfolding mapOut mappedRings ofList
+  maps-by-standing S out x p n h b =
+      let done = mapper-accepts K M S (length out) .1 (record { allowed = p; eight = n; low = h }) in
+      let same = counting-is-listing M S x (lt-of-lt-of-le h (p .room)) b in
+      let set : mapOut K M S out ≡ asList (ringsOf M S) = rw done in
+      (done, (λ e. same .0 (ap ofList (sym set ∙ e)), λ e. set ∙ ap asList (same .1 e)))
+
+  pub ranks-by-standing :
+      (x : Eight) (S : ℕ) → Permitted K M → Below8 M x
+      → (rankedOf K M (asList x) ≡ record { refusal = 0; number = S }) ↔ ((standing M x ≡ S) × (S < 2 ^ K))
+  unfolding rankedOf ofList
+  ranks-by-standing x S p b = (there, back)
+    where
+      there : rankedOf K M (asList x) ≡ record { refusal = 0; number = S } → (standing M x ≡ S) × (S < 2 ^ K)
+      there e =
+          let none = ap (λ (r : Ranked). r .refusal) e in
+          let same : standing M x ≡ S = standing-is-number M x b ∙ (rw none at (ap (λ (r : Ranked). r .number) e)) in
+          (same, rw same at (ranker-accepts K M (asList x) .0 none .low))
+
+      back : (standing M x ≡ S) × (S < 2 ^ K) → rankedOf K M (asList x) ≡ record { refusal = 0; number = S }
+      back h =
+          let none = ranker-accepts K M (asList x) .1 (record { allowed = p; eight = refl; below = b; low = rw (h .0) (h .1) }) in
+          rw (none, ← standing-is-number M x b, h .0)
+
+  pub refuses-by-standing :
+      (x : Eight) → Permitted K M → Below8 M x
+      → (rankedOf K M (asList x) ≡ record { refusal = 11; number = 0 }) ↔ (2 ^ K ≤ standing M x)
+  unfolding rankedOf rankRefusal refusal ofList
+  refuses-by-standing x p b = (there, back)
+    where
+      there : rankedOf K M (asList x) ≡ record { refusal = 11; number = 0 } → 2 ^ K ≤ standing M x
+      there e =
+          let fewer = ranks-by-standing x (standing M x) p b .1 in
+          let never : standing M x < 2 ^ K → ⊥ = λ l. omega (arith, ap (λ (r : Ranked). r .refusal) (sym (fewer (refl, l)) ∙ e)) in
+          omega arith
+
+      back : 2 ^ K ≤ standing M x → rankedOf K M (asList x) ≡ record { refusal = 11; number = 0 }
+      back h =
+          rw (is-permitted K M p, below-all M x b, ← standing-is-number M x b, le-leb (2 ^ K) (standing M x) h)
+
   -- for permitted K, M and S < 2^K the mapper answers 0 and a set of rings below M that S sets stand before, and the ranker gives
   -- S back for it
   pub record Mapped (S : ℕ) (out : List ℕ) : Type 0 where
@@ -33,22 +79,18 @@ module _ (K M : ℕ) where
     pub back : rankedOf K M (mapOut K M S out) ≡ record { refusal = 0; number = S }
 
   pub mapped : (S : ℕ) (out : List ℕ) → Permitted K M → length out ≡ 8 → S < 2 ^ K → Mapped S out
-  unfolding mappedRings
   mapped S out p n h =
       let x = ringsOf M S in
       let room : S < M ^ 8 = lt-of-lt-of-le h (p .room) in
-      let done = map-accepts K M S (length out) p n h in
-      let set : ofList (mapOut K M S out) ≡ x = ap ofList (map-done K M S out done) ∙ ofList-asList x in
-      let num : number M (ofList (mapOut K M S out)) ≡ S = ap (number M) set ∙ number-of-rings M S room in
       let below = rings-below M S room in
-      let shut : allBelow M (mapOut K M S out) ≡ true = ap (allBelow M) (map-done K M S out done) ∙ below-all M x below in
-      let long : length (mapOut K M S out) ≡ 8 = ap length (map-done K M S out done) in
-      let ok = rank-accepts K M (mapOut K M S out) (record { allowed = p; eight = long; below = shut; low = omega arith }) in
+      let stands = counting-is-listing M S x room below .0 refl in
+      let maps = maps-by-standing S out x p n h below in
+      let set = maps .1 .1 stands in
       record {
-        done = done;
-        below = subst (Below8 M) (sym set) below;
-        stands = ap (standing M) set ∙ (standing-is-number M x below ∙ number-of-rings M S room);
-        back = rank-answer K M (mapOut K M S out) 0 ok ∙ ap (λ (k : ℕ). record { refusal = 0; number = k }) num;
+        done = maps .0;
+        below = rw (set, ofList-asList x) below;
+        stands = rw (set, ofList-asList x) stands;
+        back = rw set (ranks-by-standing x S p below .1 (stands, h));
       }
 
   -- for a set that the ranker accepts, its number is how many sets stand before it, it is below 2^K, and the mapper gives the set
@@ -60,30 +102,21 @@ module _ (K M : ℕ) where
     pub back : mapOut K M (rankedOf K M rings .number) out ≡ rings
 
   pub ranked : (rings out : List ℕ) → rankedOf K M rings .refusal ≡ 0 → length out ≡ 8 → RankedBack rings out
-  unfolding rankedOf mappedRings
   ranked rings out e n =
-      let a = rank-accepted K M rings e in
+      let a = ranker-accepts K M rings .0 e in
+      let S = rankedOf K M rings .number in
       let x = ofList rings in
-      let below = all-below M rings (a .eight) (a .below) in
-      let num : rankedOf K M rings .number ≡ number M x = ap (λ (r : Ranked). r .number) (rank-answer K M rings 0 e) in
-      let l = a .low in
-      let low : rankedOf K M rings .number < 2 ^ K = omega arith in
-      let done = map-accepts K M (rankedOf K M rings .number) (length out) (a .allowed) n low in
-      record {
-        stands = num ∙ sym (standing-is-number M x below);
-        low = low;
-        done = done;
-        back = map-done K M (rankedOf K M rings .number) out done ∙ (ap (λ (k : ℕ). asList (ringsOf M k)) num ∙ (ap asList (rings-of-number M x below) ∙ asList-ofList rings (a .eight)));
-      }
+      let same = asList-ofList rings (a .eight) in
+      let zero : rankedOf K M rings ≡ record { refusal = 0; number = S } = ap (λ (k : ℕ). record { refusal = k; number = S }) e in
+      let place = ranks-by-standing x S (a .allowed) (a .below) .0 (ap (rankedOf K M) same ∙ zero) in
+      let maps = maps-by-standing S out x (a .allowed) n (place .1) (a .below) in
+      record { stands = sym (place .0); low = place .1; done = maps .0; back = maps .1 .1 (place .0) ∙ same }
 
   -- a set of rings below M before which 2^K sets or more stand is refused with 11
-  pub refused : (x : Eight) → Permitted K M → Below8 M x → 2 ^ K ≤ standing M x → rankedOf K M (asList x) ≡ record { refusal = 11; number = 0 }
-  refused x p b h =
-      rank-answer K M (asList x) 11
-      (rank-last K M (asList x) p refl (below-all M x b)
-      ∙ given (leb (2 ^ K) (number M (ofList (asList x)))) 11 []
-      (le-leb (2 ^ K) (number M (ofList (asList x))) (subst (λ (k : ℕ). 2 ^ K ≤ k) (standing-is-number M x b ∙ ap (number M) (sym (ofList-asList x))) h))
-      )
+  pub refused :
+      (x : Eight) → Permitted K M → Below8 M x → 2 ^ K ≤ standing M x
+      → rankedOf K M (asList x) ≡ record { refusal = 11; number = 0 }
+  refused x p b h = refuses-by-standing x p b .1 h
 
 -- at most one outcome fits the mapper's contract, and one the ranker's
 pub map-once :

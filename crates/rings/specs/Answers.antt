@@ -14,11 +14,12 @@
 use mathlib.Core.Bool.{Bool, true, not, _&&_, cond}
 use mathlib.Core.List.{List, [], _∷_}
 use mathlib.Core.Path.{_≡_}
-use Prim.Native.Nat.{ℕ, _^_, _≤_}
+use Prim.Native.Nat.{ℕ, _^_, _≤_, _<_}
 use lib.Dec.{leb, ltb, eqb}
 use lib.ListN.{length}
 use Rattle.laws.specs.Choice.{refusal}
-use Rattle.listing.specs.Sets.{Eight, asList, ofList}
+use Rattle.listing.specs.Sets.{Eight, Below8, asList, ofList}
+use Rattle.listing.specs.Order.{standing}
 use Rattle.listing.specs.Number.{ringsOf, number}
 use Rattle.rings.specs.declared.entry.Ranked.{Ranked}
 
@@ -47,6 +48,12 @@ mapRefusal K M S lent =
     ∷ (leb (2 ^ K) S, 14)
     ∷ [])
 
+-- the calls that the mapper answers with 0, and no others: `mapper-accepts`
+pub record Mappable (K M S lent : ℕ) : Type 0 where
+  pub allowed : Permitted K M
+  pub eight : lent ≡ 8
+  pub low : S < 2 ^ K
+
 -- the set that the mapper answers
 unfoldable pub mappedRings : ℕ → ℕ → Eight
 mappedRings M S = ringsOf M S
@@ -69,6 +76,13 @@ rankRefusal K M rings =
     ∷ (not (allBelow M rings), 10)
     ∷ (leb (2 ^ K) (number M (ofList rings)), 11)
     ∷ [])
+
+-- the calls that the ranker answers with 0, and no others, by how many sets stand before the rings: `ranker-accepts`
+pub record Rankable (K M : ℕ) (rings : List ℕ) : Type 0 where
+  pub allowed : Permitted K M
+  pub eight : length rings ≡ 8
+  pub below : Below8 M (ofList rings)
+  pub low : standing M (ofList rings) < 2 ^ K
 
 -- the refusals that the ranker tests before it ranks: 13, 8 and 10
 unfoldable pub rankTested : ℕ → ℕ → List ℕ → ℕ

@@ -7,7 +7,6 @@ use mathlib.Core.Path.{_≡_, refl, sym, subst, ap, ap₂, _∙_}
 use Prim.Native.Nat.{ℕ, zero, suc, _+_, _*_, _-_, _/_, _%_, _^_, _≤_, _<_}
 use native.Mathlib.Nat.{pow-suc}
 use native.Mathlib.Omega.{arith}
-use lib.Dec.{ltb}
 use lib.ListN.{length, take, getD, length-append, List·getD-append}
 use lib.Seq.{length-take-le, take-all, take-suc}
 use borrow.Author.Tests.{ltb-true, ltb-false, lt-ltb, le-ltb}
@@ -91,19 +90,20 @@ limit-enough (suc f) (suc g) n h k = go (oneDigit n) refl (λ a b. limit-enough 
         let l = ltb-false n _ e in
         ap (λ (ds : List ℕ). ds ++ digit (n % 10) ∷ []) (same (omega arith) (omega arith))
 
--- a number below 10 is one digit
-pub decimal-digit : (n : ℕ) → n < 10 → decimal n ≡ digit n ∷ []
+-- a number of one digit is that digit
+pub decimal-digit : (n : ℕ) → oneDigit n ≡ true → decimal n ≡ digit n ∷ []
 unfolding decimal digits
-decimal-digit n h = rw (lt-ltb n 10 h)
+decimal-digit n e = rw e
 
 -- and any other is a tenth of it and the last digit
-pub decimal-step : (n : ℕ) → 10 ≤ n → decimal n ≡ decimal (n / 10) ++ digit (n % 10) ∷ []
+pub decimal-step : (n : ℕ) → oneDigit n ≡ false → decimal n ≡ decimal (n / 10) ++ digit (n % 10) ∷ []
 unfolding decimal digits
-decimal-step n h =
-    rw (le-ltb n 10 h) (ap (λ (ds : List ℕ). ds ++ digit (n % 10) ∷ []) (limit-enough n (suc (n / 10)) (n / 10) (omega arith) (omega arith)))
+decimal-step n e =
+    let l = ltb-false n _ e in
+    rw e (ap (λ (ds : List ℕ). ds ++ digit (n % 10) ∷ []) (limit-enough n (suc (n / 10)) (n / 10) (omega arith) (omega arith)))
 
-pub one-digit-more : (n : ℕ) → 10 ≤ n → length (decimal n) ≡ length (decimal (n / 10)) + 1
-one-digit-more n h = ap length (decimal-step n h) ∙ length-append (decimal (n / 10)) (digit (n % 10) ∷ [])
+pub one-digit-more : (n : ℕ) → oneDigit n ≡ false → length (decimal n) ≡ length (decimal (n / 10)) + 1
+one-digit-more n e = ap length (decimal-step n e) ∙ length-append (decimal (n / 10)) (digit (n % 10) ∷ [])
 
 -- what is read is not below what was read before
 read-least : (v : ℕ) (ds : List ℕ) → v ≤ readOn v ds
@@ -131,7 +131,7 @@ only-last zero [] d n e s =
     let reads = s .reads in
     let below : n < 10 = omega (arith, s .each .0) in
     let same : d ≡ digit n = omega (arith, s .each .0) in
-    ap (λ (x : ℕ). x ∷ []) same ∙ sym (decimal-digit n below)
+    ap (λ (x : ℕ). x ∷ []) same ∙ sym (decimal-digit n (lt-ltb n 10 below))
 only-last zero (x ∷ front) d n e s = absurd (omega arith)
 only-last (suc m) front d n e s =
     let nonzero : n ≡ 0 → ⊥ = λ z. omega (arith, s .alone z, length-append front (d ∷ [])) in
@@ -145,7 +145,7 @@ only-last (suc m) front d n e s =
     let last = every-right Digit front (d ∷ []) (s .each) in
     let over : value front ≡ n / 10 = omega (arith, last .0) in
     let end : d ≡ digit (n % 10) = omega (arith, last .0) in
-    ap₂ (λ (ds : List ℕ) (x : ℕ). ds ++ x ∷ []) (tenth ∙ ap decimal over) end ∙ sym (decimal-step n (omega arith))
+    ap₂ (λ (ds : List ℕ) (x : ℕ). ds ++ x ∷ []) (tenth ∙ ap decimal over) end ∙ sym (decimal-step n (le-ltb n 10 (omega arith)))
 
 -- and no other digits spell the number
 pub only-decimal : (ds : List ℕ) (n : ℕ) → Spells n ds → ds ≡ decimal n
@@ -156,12 +156,9 @@ only-decimal (d ∷ ds) n s =
 
 -- a number below a power of ten has no more digits than the power has zeros
 pub decimal-length : (k n : ℕ) → n < 10 ^ suc k → length (decimal n) ≤ suc k
-decimal-length zero n h = rw (decimal-digit n h) (omega arith)
-decimal-length (suc k) n h = go (ltb n 10) refl (λ l. decimal-length k (n / 10) l)
+decimal-length zero n h = rw (decimal-digit n (lt-ltb n _ h)) (omega arith)
+decimal-length (suc k) n h = go (oneDigit n) refl (decimal-length k (n / 10) (omega (arith, pow-suc 10 (suc k))))
   where
-    go : (v : Bool) → ltb n 10 ≡ v → (n / 10 < 10 ^ suc k → length (decimal (n / 10)) ≤ suc k) → length (decimal n) ≤ suc (suc k)
-    go true e tenth = let l = ltb-true n 10 e in rw (decimal-digit n l) (omega arith)
-    go false e tenth =
-        let l = ltb-false n 10 e in
-        let t = tenth (omega (arith, pow-suc 10 (suc k))) in
-        omega (arith, one-digit-more n l)
+    go : (v : Bool) → oneDigit n ≡ v → length (decimal (n / 10)) ≤ suc k → length (decimal n) ≤ suc (suc k)
+    go true e tenth = rw (decimal-digit n e) (omega arith)
+    go false e tenth = omega (arith, one-digit-more n e)

@@ -15,8 +15,7 @@ use Rattle.line.specs.Settings.{settingsRefusal, refusals, workedOf, numberOf, 
 use Rattle.line.proofs.Acceptance.{number-is}
 use Rattle.line.proofs.Soundness.{Sound, accepted-sound}
 use Rattle.settings.specs.Lines.{fiveBytes, answerOf, spaced, refusedWord, textOf, ended, lineOf}
-use Rattle.settings.proofs.Decimals.{decimal-length}
-use Rattle.settings.proofs.Joins.{Short, joined-short, spaced-one}
+use Rattle.settings.proofs.Joins.{Short, short-length, joined-short, spaced-one}
 
 -- how long the text of a refusal is, and a text with the line feed
 pub refused-length : (number : ℕ) → length (textOf (Refused number)) ≡ 7 + length (spaced (number ∷ []))
@@ -78,7 +77,7 @@ text-fits : (w : Worked) → Limited w → length (textOf w) ≤ 39
 unfolding textOf
 text-fits (Accepted c) z = omega (arith, joined-short (valuesOf (Accepted c)) (omega arith) (values-short c z))
 text-fits (Refused number) h =
-    omega (arith, refused-length number, ap length (spaced-one number), decimal-length 0 number (omega arith))
+    omega (arith, refused-length number, ap length (spaced-one number), short-length number (omega arith))
 
 pub line-fits : (input : List ℕ) → length (lineOf input) ≤ 40
 unfolding lineOf

@@ -59,16 +59,17 @@ joined-length ns h = ap length (joined-first ns h) ∙ length-append (decimal (g
 abbrev pub Short : ℕ → Type 0
 Short n = n ≤ 9999
 
+pub short-length : (n : ℕ) → Short n → length (decimal n) ≤ 4
+short-length n h = decimal-length 3 n (omega arith)
+
 spaced-short : (ns : List ℕ) → Every Short ns → length (spaced ns) ≤ 5 * length ns
 unfolding spaced
 spaced-short [] short = omega arith
 spaced-short (n ∷ ns) short =
-    let d = decimal-length 3 n (omega (arith, short .0)) in
-    omega (arith, spaced-short ns (short .1), length-append (decimal n) (spaced ns))
+    omega (arith, short-length n (short .0), spaced-short ns (short .1), length-append (decimal n) (spaced ns))
 
 pub joined-short : (ns : List ℕ) → 1 ≤ length ns → Every Short ns → length (joined ns) + 1 ≤ 5 * length ns
 unfolding joined
 joined-short [] h short = absurd (omega arith)
 joined-short (n ∷ ns) h short =
-    let d = decimal-length 3 n (omega (arith, short .0)) in
-    omega (arith, spaced-short ns (short .1), length-append (decimal n) (spaced ns))
+    omega (arith, short-length n (short .0), spaced-short ns (short .1), length-append (decimal n) (spaced ns))

@@ -1,9 +1,9 @@
 -- The answers of ww_write and ww_read by their ways out: what the coder refuses for the labels that it is lent is what is refused for the
 -- bytes, and what it codes is laid out. Assumes nothing.
-use mathlib.Core.Bool.{Bool, true, false, not, cond}
+use mathlib.Core.Bool.{Bool, true, false, not}
 use mathlib.Core.List.{List, [], _∷_}
 use mathlib.Core.Path.{_≡_, refl, sym, ap, _∙_}
-use Prim.Native.Nat.{ℕ, _*_, _≤_}
+use Prim.Native.Nat.{ℕ, _*_}
 use native.Mathlib.Omega.{arith}
 use lib.ListN.{length, take}
 use lib.Seq.{length-take-le, take-all}
@@ -16,8 +16,10 @@ use Rattle.coder.specs.declared.states.State.{State}
 use Rattle.coder.specs.declared.states.Coded.{Coded}
 use Rattle.coder.specs.State.{workedIn, unfit}
 use Rattle.coder.specs.Receiving.{receivingOf, allInRange, numbersFit, allStepsFit}
-use Rattle.coder.specs.Answers.{allBits, exact, writeRefusal, readRefusal, written, received, labelsOf, bitsOf, writtenOf, labelsAfter, readOf, bitsAfter, Sendable, Receivable}
-use Rattle.coder.proofs.Acceptance.{settings-sound, passes-exact, sends, sends-labels, written-sendable, receives, receives-bits, read-receivable}
+use Rattle.coder.specs.Answers.{allBits, exact, writeRefusal, written, labelsOf, writtenOf, labelsAfter, Sendable}
+use Rattle.coder.specs.Answers.{readRefusal, received, bitsOf, readOf, bitsAfter, Receivable}
+use Rattle.coder.proofs.Acceptance.{settings-sound, passes-exact, sends, written-sendable, receives, read-receivable}
+use Rattle.coder.proofs.Back.{sends-labels, receives-bits}
 use Rattle.workerwax.specs.Calls.{exactBytes, writeNumber, readNumber, codedNumbers, WriteCall, ReadCall}
 use Rattle.workerwax.specs.Layout.{words, labelBytes, labelsIn}
 use Rattle.workerwax.specs.Lending.{lentLabels}
@@ -58,19 +60,22 @@ module _ (st : State) (bits labels answer part : List ℕ) (sized : length part 
         let least = settings-sound st c (sendable .1 .worked) .frames-least in
         rw sized (lent-some (length labels) (length answer) (λ z. omega (arith, z, sized, sendable .1 .labels, least)))
 
+    -- what the coder answers and writes is what the call answers and writes
+    pub write-coded : writtenOf st bits (length part) ≡ written (workedIn st) st bits
+    write-coded = rw (sendable .1 .worked) (sends st bits part (sendable .0) (sendable .1))
+
+    pub write-labels : labelsAfter st bits part ≡ labelsOf (workedIn st) st bits
+    write-labels = rw (sendable .1 .worked) (sends-labels st bits part (sendable .0) (sendable .1))
+
     pub write-done :
-        (bytes after : List ℕ) → bytes ≡ labelBytes (labelsAfter st bits part) → after ≡ words (codedNumbers (writtenOf st bits (length part)))
-        → WriteCall st bits labels answer 0 bytes after
+        (bytes after : List ℕ) → bytes ≡ labelBytes (labelsAfter st bits part)
+        → after ≡ words (codedNumbers (writtenOf st bits (length part))) → WriteCall st bits labels answer 0 bytes after
     write-done bytes after is-bytes is-after =
-        let c = sendable .0 in
-        let w = sendable .1 in
         let zero : writeNumber (workedIn st) st bits (length labels) (length answer) ≡ 0 = sym write-is ∙ done in
-        let given : labelsAfter st bits part ≡ labelsOf (workedIn st) st bits = rw (w .worked) (sends-labels st bits part c w) in
-        let coded : writtenOf st bits (length part) ≡ written (workedIn st) st bits = rw (w .worked) (sends st bits part c w) in
         record {
           number = sym zero;
-          labels = is-bytes ∙ (ap labelBytes given ∙ filled-up _ _ labels zero);
-          next = is-after ∙ (ap (λ (r : Coded). words (codedNumbers r)) coded ∙ filled-up _ _ answer zero);
+          labels = is-bytes ∙ (ap labelBytes write-labels ∙ filled-up _ _ labels zero);
+          next = is-after ∙ (ap (λ (r : Coded). words (codedNumbers r)) write-coded ∙ filled-up _ _ answer zero);
         }
 
 -- refusal 8 hides what would be tested behind it
@@ -87,13 +92,13 @@ module _
   abbrev lent : ℕ
   lent = lentLabels (length labels) (length answer)
 
-  given-length : length given ≡ lent
+  pub given-length : length given ≡ lent
   given-length =
       ap length is-given
       ∙ length-labels lent (take (2 * lent) labels) (length-take-le (2 * lent) labels (lent-within (length labels) (length answer)))
 
   -- all labels, wherever some are lent
-  all-given : (lent ≡ 0 → ⊥) → given ≡ labelsIn labels
+  pub all-given : (lent ≡ 0 → ⊥) → given ≡ labelsIn labels
   all-given some =
       is-given ∙ ap labelsIn (take-all (2 * lent) labels (omega (arith, lent-some (length labels) (length answer) some .half)))
 
@@ -107,7 +112,9 @@ module _
   pub read-same : readRefusal (workedIn st) st given (length bits) ≡ readNumber (workedIn st) st labels (length bits) (length answer)
   read-same = go (workedIn st) refl
     where
-      exact-is : (c : Settings) → workedIn st ≡ Accepted c → exact c (length bits) (length given) ≡ exactBytes c (length bits) (length labels) (length answer)
+      exact-is :
+          (c : Settings) → workedIn st ≡ Accepted c
+          → exact c (length bits) (length given) ≡ exactBytes c (length bits) (length labels) (length answer)
       exact-is c e = rw given-length (exact-same c (settings-sound st c e) (length bits) (length labels) (length answer))
 
       some : (c : Settings) → workedIn st ≡ Accepted c → exactBytes c (length bits) (length labels) (length answer) ≡ true → lent ≡ 0 → ⊥
@@ -120,7 +127,8 @@ module _
           → readRefusal (Accepted c) st given (length bits) ≡ readNumber (Accepted c) st labels (length bits) (length answer)
       frame c e false f = eight-hides (unfit st) _ _ (tests c given) (tests c (labelsIn labels)) (exact-is c e ∙ f) f
       frame c e true f =
-          ap (λ (l : List ℕ). refusal ((unfit st, 7) ∷ (not (exact c (length bits) (length given)), 8) ∷ tests c l)) (all-given (some c e f))
+          ap (λ (l : List ℕ). refusal ((unfit st, 7) ∷ (not (exact c (length bits) (length given)), 8) ∷ tests c l))
+          (all-given (some c e f))
           ∙ ap (λ (v : Bool). refusal ((unfit st, 7) ∷ (not v, 8) ∷ tests c (labelsIn labels))) (exact-is c e)
 
       go : (w : Worked) → workedIn st ≡ w → readRefusal w st given (length bits) ≡ readNumber w st labels (length bits) (length answer)
@@ -163,18 +171,20 @@ module _
     pub read-all : given ≡ labelsIn labels
     read-all = all-given some-lent
 
+    -- what the coder answers and reads is what the call answers and reads
+    pub read-coded : readOf st given (length bits) ≡ received (workedIn st) st (labelsIn labels)
+    read-coded = rw (receivable .1 .worked, ← read-all) (receives st given bits (receivable .0) (receivable .1))
+
+    pub read-decoded : bitsAfter st given bits ≡ bitsOf (workedIn st) st (labelsIn labels)
+    read-decoded = rw (receivable .1 .worked, ← read-all) (receives-bits st given bits (receivable .0) (receivable .1))
+
     pub read-done :
         (after next : List ℕ) → after ≡ bitsAfter st given bits → next ≡ words (codedNumbers (readOf st given (length bits)))
         → ReadCall st labels bits answer 0 after next
     read-done after next is-after is-next =
-        let c = receivable .0 in
-        let r = receivable .1 in
         let zero : readNumber (workedIn st) st labels (length bits) (length answer) ≡ 0 = sym read-is ∙ done in
-        let all = all-given some-lent in
-        let back : bitsAfter st given bits ≡ bitsOf (workedIn st) st (labelsIn labels) = rw (r .worked, ← all) (receives-bits st given bits c r) in
-        let coded : readOf st given (length bits) ≡ received (workedIn st) st (labelsIn labels) = rw (r .worked, ← all) (receives st given bits c r) in
         record {
           number = sym zero;
-          bits = is-after ∙ (back ∙ filled-up _ _ bits zero);
-          next = is-next ∙ (ap (λ (x : Coded). words (codedNumbers x)) coded ∙ filled-up _ _ answer zero);
+          bits = is-after ∙ (read-decoded ∙ filled-up _ _ bits zero);
+          next = is-next ∙ (ap (λ (x : Coded). words (codedNumbers x)) read-coded ∙ filled-up _ _ answer zero);
         }

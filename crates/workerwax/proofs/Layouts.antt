@@ -5,8 +5,8 @@ use mathlib.Core.Path.{_≡_, refl, sym, ap, _∙_}
 use Prim.Native.Nat.{ℕ, suc, _+_, _*_, _/_, _%_, _≤_, _<_}
 use native.Mathlib.Numerals.{add-one}
 use native.Mathlib.Omega.{arith}
-use lib.ListN.{length, take, drop, getD, set, length-append, length-set, take-append-drop, drop-of-length-le}
-use lib.Seq.{take-suc, take-suc-set, drop-cons, take-all, length-take-le}
+use lib.ListN.{length, take, drop, getD, set, length-append, length-set, drop-of-length-le}
+use lib.Seq.{take-suc, take-suc-set, drop-cons, take-all}
 use Rattle.laws.specs.Put.{Put}
 use Rattle.laws.proofs.Puts.{put-one, put-more, put-front}
 use Rattle.workerwax.specs.Layout.{word, words, labelBytes, labelsIn}

@@ -1,13 +1,12 @@
 -- How many labels the coder is lent: at most 256, and half as many as there are bytes wherever it is not 0. So the coder's test of its own
 -- lengths is the test of all three lengths. Assumes nothing.
-use mathlib.Core.Bool.{Bool, true, false, not, _&&_, cond}
+use mathlib.Core.Bool.{Bool, true, false, _&&_, cond}
 use mathlib.Core.List.{List, [], _∷_}
-use mathlib.Core.Path.{_≡_, refl, sym, ap, _∙_}
-use Prim.Native.Nat.{ℕ, zero, suc, _+_, _*_, _/_, _%_, _≤_, _<_}
+use mathlib.Core.Path.{_≡_, refl, ap, _∙_}
+use Prim.Native.Nat.{ℕ, zero, suc, _*_, _/_, _%_, _≤_}
 use native.Mathlib.Omega.{arith}
 use lib.Dec.{leb, eqb}
-use lib.ListN.{length, take}
-use lib.Seq.{length-take-le, take-all}
+use lib.ListN.{length}
 use borrow.Author.Tests.{leb-true, le-leb, eqb-true, eq-eqb}
 use Rattle.laws.proofs.Bools.{and-parts, and-both, same-test}
 use Rattle.line.specs.declared.settings.Settings.{Settings}
@@ -18,8 +17,14 @@ use Rattle.workerwax.specs.Layout.{labelsIn}
 use Rattle.workerwax.specs.Lending.{lentLabels, shownRings}
 
 module _ (labels answer : ℕ) where
+  abbrev whole : Bool
+  whole = eqb answer 32
+
+  abbrev halves : Bool
+  halves = leb labels 512 && eqb (labels % 2) 0
+
   abbrev fitting : Bool
-  fitting = eqb answer 32 && (leb labels 512 && eqb (labels % 2) 0)
+  fitting = whole && halves
 
   pub record Lent (lent : ℕ) : Type 0 where
     pub answered : answer ≡ 32
@@ -33,10 +38,10 @@ module _ (labels answer : ℕ) where
       go : (v : Bool) → fitting ≡ v → (cond v (labels / 2) 0 ≡ 0 → ⊥) → Lent (cond v (labels / 2) 0)
       go false e h = absurd (h refl)
       go true e h =
-          let outer = and-parts (eqb answer 32) _ e in
+          let outer = and-parts whole halves e in
           let inner = and-parts (leb labels 512) _ (outer .1) in
           let even = eqb-true (labels % 2) 0 (inner .1) in
-          record { answered = eqb-true answer 32 (outer .0); most = leb-true labels 512 (inner .0); half = omega (arith, even) }
+          record { answered = eqb-true _ _ (outer .0); most = leb-true labels 512 (inner .0); half = omega (arith, even) }
 
   pub lent-most : lentLabels labels answer ≤ 256
   unfolding lentLabels
@@ -44,7 +49,10 @@ module _ (labels answer : ℕ) where
     where
       go : (v : Bool) → fitting ≡ v → cond v (labels / 2) 0 ≤ 256
       go false e = omega arith
-      go true e = let inner = and-parts (leb labels 512) _ (and-parts (eqb answer 32) _ e .1) in omega (arith, leb-true labels 512 (inner .0))
+      go true e =
+          let outer = and-parts whole halves e in
+          let inner = and-parts (leb labels 512) _ (outer .1) in
+          omega (arith, leb-true labels 512 (inner .0))
 
   pub lent-within : 2 * lentLabels labels answer ≤ labels
   unfolding lentLabels
@@ -58,7 +66,8 @@ module _ (labels answer : ℕ) where
   unfolding lentLabels
   lent-exact k e most half =
       let even : labels % 2 ≡ 0 = omega arith in
-      let fits = and-both (eqb answer 32) _ (eq-eqb answer 32 e) (and-both (leb labels 512) _ (le-leb labels 512 (omega arith)) (eq-eqb (labels % 2) 0 even)) in
+      let within = and-both (leb labels 512) (eqb (labels % 2) 0) (le-leb labels 512 (omega arith)) (eq-eqb (labels % 2) 0 even) in
+      let fits = and-both whole halves (eq-eqb _ _ e) within in
       ap (λ (v : Bool). cond v (labels / 2) 0) fits ∙ omega (arith, half)
 
 -- the ranker is shown no more rings than there are
@@ -73,20 +82,18 @@ shown-within rings answer = go (eqb answer 4)
 -- the coder's own test, and the test of all three lengths
 pub exact-same :
     (c : Settings) → Sound c → (bits labels answer : ℕ) → exact c bits (lentLabels labels answer) ≡ exactBytes c bits labels answer
-exact-same c sound bits labels answer = ap (λ (v : Bool). eqb bits (c .bits) && v) (same-test _ _ there back)
-  where
-    there : eqb (lentLabels labels answer) (16 * c .frames) ≡ true → (eqb labels (32 * c .frames) && eqb answer 32) ≡ true
-    there e =
-        let is = eqb-true (lentLabels labels answer) (16 * c .frames) e in
-        let l = lent-some labels answer (λ z. omega (arith, z, is, sound .frames-least)) in
-        and-both _ _ (eq-eqb labels (32 * c .frames) (omega (arith, l .half, is))) (eq-eqb answer 32 (l .answered))
-
-    back : (eqb labels (32 * c .frames) && eqb answer 32) ≡ true → eqb (lentLabels labels answer) (16 * c .frames) ≡ true
-    back e =
-        let both = and-parts (eqb labels (32 * c .frames)) (eqb answer 32) e in
-        let size = eqb-true labels (32 * c .frames) (both .0) in
-        eq-eqb (lentLabels labels answer) (16 * c .frames)
-        (lent-exact labels answer (16 * c .frames) (eqb-true answer 32 (both .1)) (omega (arith, sound .frames-most)) (omega (arith, size)))
+exact-same c sound bits labels answer =
+    ap (λ (v : Bool). eqb bits (c .bits) && v)
+    (same-test _ _
+    (λ e.
+    let is = eqb-true (lentLabels labels answer) (16 * c .frames) e in
+    let l = lent-some labels answer (λ z. omega (arith, z, is, sound .frames-least)) in
+    and-both _ _ (eq-eqb labels (32 * c .frames) (omega (arith, l .half, is))) (eq-eqb _ _ (l .answered)))
+    (λ e.
+    let both = and-parts (eqb labels (32 * c .frames)) _ e in
+    let size = eqb-true labels (32 * c .frames) (both .0) in
+    eq-eqb (lentLabels labels answer) (16 * c .frames)
+    (lent-exact labels answer (16 * c .frames) (eqb-true _ _ (both .1)) (omega (arith, sound .frames-most)) (omega (arith, size)))))
 
 -- as many labels as lent are in twice as many bytes
 pub length-labels : (k : ℕ) (bytes : List ℕ) → length bytes ≡ 2 * k → length (labelsIn bytes) ≡ k

@@ -1,9 +1,10 @@
 -- What is proved of the calls for C.
 --     Outcomes     at most one outcome fits each contract
+--     Accepts      which calls get 0, exactly, and that ww_write takes every data frame from a start
 --     Unstated     an unstated mark is never taken as permission
 --     Back         ww_write and ww_read undo each other
---     Places       ww_map and ww_rank undo each other, and a set numbered 2^K or above is refused
---     Answers      what the words of an answer say, and when ww_write answers 0
+--     Places       ww_map and ww_rank by how many sets stand before a set, and that they undo each other
+--     Answers      what the words of an answer say, and that the state in them is fit again
 --     Undone       bytes there and back, and worked layouts
 -- and what the proofs of several functions share,
 --     Layouts      numbers and labels put and taken one after the other
@@ -11,7 +12,10 @@
 --     Refusals     no refusal number is above 14
 --     Ways         the settings, the starts and the ranker by their ways out
 --     Frames       the writer and the reader by their ways out
+-- and for the theorems
+--     Below        a call of ww_write or ww_read, and what the coder below it did
 pub mod Outcomes
+pub mod Accepts
 pub mod Unstated
 pub mod Back
 pub mod Places
@@ -22,3 +26,4 @@ pub mod Lends
 pub mod Refusals
 pub mod Ways
 pub mod Frames
+pub mod Below

@@ -1,7 +1,7 @@
 -- No refusal number is above 14, so that each fits the 32 bits in which C gets it. Assumes nothing.
 use mathlib.Core.Bool.{Bool, true, false, cond}
-use mathlib.Core.List.{List, [], _∷_}
-use mathlib.Core.Path.{_≡_, refl, sym, _∙_}
+use mathlib.Core.List.{List}
+use mathlib.Core.Path.{_≡_, refl, sym}
 use Prim.Native.Nat.{ℕ, _≤_}
 use native.Mathlib.Omega.{arith}
 use lib.Dec.{eqb}
@@ -66,8 +66,8 @@ written-number st bits lent = go (workedIn st)
   where
     go :
         (w : Worked)
-        → cond (eqb (writeRefusal w st bits lent) 0) (written w st bits) (record { refusal = writeRefusal w st bits lent; bits = 0; state = st }) .refusal
-        ≡ writeRefusal w st bits lent
+        → let number = writeRefusal w st bits lent in
+        cond (eqb number 0) (written w st bits) (record { refusal = number; bits = 0; state = st }) .refusal ≡ number
     go (Refused number) = chosen number (record { refusal = number; bits = 0; state = st }) st (λ e. refl)
     go (Accepted c) = chosen _ (written (Accepted c) st bits) st (λ e. sym e)
 
@@ -77,8 +77,8 @@ read-number st labels lent = go (workedIn st)
   where
     go :
         (w : Worked)
-        → cond (eqb (readRefusal w st labels lent) 0) (received w st labels) (record { refusal = readRefusal w st labels lent; bits = 0; state = st }) .refusal
-        ≡ readRefusal w st labels lent
+        → let number = readRefusal w st labels lent in
+        cond (eqb number 0) (received w st labels) (record { refusal = number; bits = 0; state = st }) .refusal ≡ number
     go (Refused number) = chosen number (record { refusal = number; bits = 0; state = st }) st (λ e. refl)
     go (Accepted c) = chosen _ (received (Accepted c) st labels) st (λ e. sym e)
 

@@ -1,8 +1,8 @@
--- Bytes there and back: numbers below 2^32 and labels below 2^16 are read back as they were laid out, and bytes that are taken as labels are
--- laid out again as they were. Assumes nothing.
+-- Bytes there and back: numbers below 2^32 and labels below 2^16 are read back as they were laid out, and bytes that are taken as labels
+-- are laid out again as they were. Assumes nothing.
 use mathlib.Core.Bool.{true, _&&_}
-use mathlib.Core.List.{List, [], _∷_, _++_}
-use mathlib.Core.Path.{_≡_, refl, sym, ap, ap₂, _∙_}
+use mathlib.Core.List.{List, [], _∷_}
+use mathlib.Core.Path.{_≡_, refl, ap, ap₂, _∙_}
 use Prim.Native.Nat.{ℕ, zero, suc, _+_, _*_, _/_, _%_, _^_, _≤_, _<_}
 use native.Mathlib.Nat.{mod-eq-of-lt, add-mul-mod-self-left, div-div-eq-div-mul}
 use native.Mathlib.Omega.{arith}
@@ -97,7 +97,8 @@ ranges-small M q (suc k) (a ∷ b ∷ z ∷ i ∷ labels) top e h =
     let two = ltb-true b (M * 2 ^ q) (second .0) in
     let three = leb-true z 3 (third .0) in
     let last = leb-true i 1 (third .1) in
-    (omega (arith, one), (omega (arith, two), (omega (arith, three), (omega (arith, last), ranges-small M q k labels top (omega arith) (four .1)))))
+    let rest = ranges-small M q k labels top (omega arith) (four .1) in
+    (omega (arith, one), (omega (arith, two), (omega (arith, three), (omega (arith, last), rest))))
 
 -- The worked layouts of specs/Layout.
 pub worked-layouts :

@@ -1,20 +1,18 @@
 -- An unstated setting is never taken as permission: with a mark above 1 no call answers 0, and every lent slice is as it was.
 -- Assumes nothing.
-use mathlib.Core.Bool.{Bool, not}
-use mathlib.Core.List.{List, [], _∷_}
+use mathlib.Core.List.{List}
 use mathlib.Core.Path.{_≡_, refl, sym, ap, _∙_}
 use Prim.Native.Nat.{ℕ, _<_}
-use lib.Dec.{eqb}
 use lib.ListN.{length}
 use Rattle.line.specs.declared.settings.Worked.{Worked}
 use Rattle.line.specs.declared.settings.Worked.the-variants.{Accepted, Refused}
 use Rattle.line.specs.Settings.{workedOf}
 use Rattle.line.proofs.Acceptance.{unstated-never}
 use Rattle.coder.specs.declared.states.State.{State}
-use Rattle.coder.specs.declared.states.Started.{Started}
 use Rattle.coder.specs.State.{stateOf, workedIn, stateRefusalOf, startedOf, shortStartedOf}
 use Rattle.coder.proofs.Acceptance.{never-zero}
-use Rattle.workerwax.specs.Calls.{filled, parametersNumber, startNumber, writeNumber, readNumber, ParametersCall, StartCall, WriteCall, ReadCall}
+use Rattle.workerwax.specs.Calls.{filled, parametersNumber, startNumber, writeNumber, readNumber}
+use Rattle.workerwax.specs.Calls.{ParametersCall, StartCall, WriteCall, ReadCall}
 use Rattle.workerwax.proofs.Ways.{left, own-given}
 
 -- the settings of such a state are refused
@@ -40,7 +38,8 @@ pub unstated-parameters :
     → ParametersCall (workedOf role s n shaping mark) answer r after → Left r after answer
 unstated-parameters role s n shaping mark unstated answer r after call =
     let found = refused-by (stateOf role s n shaping mark 0 0) unstated in
-    let own : parametersNumber (workedOf role s n shaping mark) (length answer) ≡ found .0 = rw (found .1) (own-given (found .0) _ (found .2)) in
+    let some = found .2 in
+    let own : parametersNumber (workedOf role s n shaping mark) (length answer) ≡ found .0 = rw (found .1) (own-given (found .0) _ some) in
     kept r _ _ answer after (found .0) (call .number) own (found .2) (call .values)
 
 -- a start from a state
@@ -50,7 +49,7 @@ unfolding startedOf
 started st unstated answer r after call =
     let found = refused-by st unstated in
     let number : stateRefusalOf (workedIn st) st ≡ found .0 = rw (found .1) in
-    let own : startNumber (startedOf st) (length answer) ≡ found .0 = rw number (own-given (found .0) ((not (eqb (length answer) 28), 8) ∷ []) (found .2)) in
+    let own : startNumber (startedOf st) (length answer) ≡ found .0 = rw number (own-given (found .0) _ (found .2)) in
     kept r _ _ answer after (found .0) (call .number) own (found .2) (call .state)
 
 pub unstated-start :

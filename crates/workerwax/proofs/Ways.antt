@@ -1,8 +1,8 @@
 -- The answer of each call by its ways out: refused by a part of it, refused for a length, or done. Assumes nothing.
-use mathlib.Core.Bool.{Bool, true, false, not, _&&_, cond}
+use mathlib.Core.Bool.{Bool, true, false, not, _&&_}
 use mathlib.Core.List.{List, [], _∷_}
-use mathlib.Core.Path.{_≡_, refl, sym, ap, subst, _∙_}
-use Prim.Native.Nat.{ℕ, _*_, _≤_}
+use mathlib.Core.Path.{_≡_, refl, sym, ap, _∙_}
+use Prim.Native.Nat.{ℕ}
 use native.Mathlib.Omega.{arith}
 use lib.Dec.{eqb}
 use lib.ListN.{length, take}
@@ -20,7 +20,7 @@ use Rattle.line.specs.Settings.{workedOf, valuesOf}
 use Rattle.coder.specs.declared.states.Started.{Started}
 use Rattle.coder.specs.State.{stateOf}
 use Rattle.coder.proofs.Acceptance.{never-zero}
-use Rattle.workerwax.specs.Calls.{filled, own, ParametersCall, StartCall, RankCall, rankNumber, stateNumbers}
+use Rattle.workerwax.specs.Calls.{filled, own, startNumber, ParametersCall, StartCall, RankCall, rankNumber, stateNumbers}
 use Rattle.workerwax.specs.Layout.{word, words}
 use Rattle.workerwax.specs.Lending.{shownRings}
 
@@ -60,15 +60,16 @@ module _ (role s n shaping mark : ℕ) (answer : List ℕ) where
 module _ (begun : Started) (answer : List ℕ) where
   pub start-refused : (begun .refusal ≡ 0 → ⊥) → StartCall begun answer (begun .refusal) answer
   start-refused some =
-      let own = own-given (begun .refusal) ((not (eqb (length answer) 28), 8) ∷ []) some in
+      let own : startNumber begun (length answer) ≡ begun .refusal = own-given (begun .refusal) _ some in
       record { number = sym own; state = rw own (left (begun .refusal) _ answer some) }
 
   pub start-unlent : begun .refusal ≡ 0 → (length answer ≡ 28 → ⊥) → StartCall begun answer 8 answer
   unfolding refusal
-  start-unlent e wrong = let other = ne-eqb (length answer) 28 wrong in record { number = rw (e, other); state = rw (e, other) }
+  start-unlent e wrong = let other = ne-eqb _ _ wrong in record { number = rw (e, other); state = rw (e, other) }
 
   pub start-done :
-      (after : List ℕ) → begun .refusal ≡ 0 → length answer ≡ 28 → after ≡ words (stateNumbers (begun .state)) → StartCall begun answer 0 after
+      (after : List ℕ) → begun .refusal ≡ 0 → length answer ≡ 28 → after ≡ words (stateNumbers (begun .state))
+      → StartCall begun answer 0 after
   unfolding refusal
   start-done after e exact is = record { number = rw (e, exact); state = rw (e, exact) is }
 
@@ -119,7 +120,8 @@ module _ (K M : ℕ) (rings answer : List ℕ) where
     rank-four =
         let lengths = eqb (length rings) 8 && eqb (length answer) 4 in
         let rest = none-rest (not (permitted K M)) 12 _ zero in
-        eqb-true (length answer) 4 (and-right (eqb (length rings) 8) (eqb (length answer) 4) (not-not lengths (none-first (not lengths) 7 _ rest)))
+        let exact = not-not lengths (none-first (not lengths) 7 _ rest) in
+        eqb-true (length answer) 4 (and-right (eqb (length rings) 8) (eqb (length answer) 4) exact)
 
     pub rank-done : (after : List ℕ) → after ≡ word (rankedOf K M shown .number) → RankCall K M rings answer 0 after
     unfolding rankedOf

@@ -107,7 +107,8 @@ pub record WriteCall (st : State) (bits lent answer : List ℕ) (r : ℕ) (lentA
       ≡ filled (writeNumber (workedIn st) st bits (length lent) (length answer)) (labelBytes (labelsOf (workedIn st) st bits)) lent
   pub next :
       answerAfter
-      ≡ filled (writeNumber (workedIn st) st bits (length lent) (length answer)) (words (codedNumbers (written (workedIn st) st bits))) answer
+      ≡ filled (writeNumber (workedIn st) st bits (length lent) (length answer))
+      (words (codedNumbers (written (workedIn st) st bits))) answer
 
 -- ww_read: settings, state, all three lengths, and the labels that the bytes hold, tested for 10, then 11, then 12
 abbrev pub readNumber : Worked → State → List ℕ → ℕ → ℕ → ℕ
@@ -127,4 +128,5 @@ pub record ReadCall (st : State) (labels lent answer : List ℕ) (r : ℕ) (lent
       lentAfter ≡ filled (readNumber (workedIn st) st labels (length lent) (length answer)) (bitsOf (workedIn st) st (labelsIn labels)) lent
   pub next :
       answerAfter
-      ≡ filled (readNumber (workedIn st) st labels (length lent) (length answer)) (words (codedNumbers (received (workedIn st) st (labelsIn labels)))) answer
+      ≡ filled (readNumber (workedIn st) st labels (length lent) (length answer))
+      (words (codedNumbers (received (workedIn st) st (labelsIn labels)))) answer

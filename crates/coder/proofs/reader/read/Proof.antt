@@ -6,7 +6,8 @@ use Rattle.rings.specs.Counts.{CountsOf}
 use Rattle.coder.specs.Sending.{ringCount}
 use Rattle.coder.specs.State.{workedIn}
 use Rattle.coder.proofs.Passes.{settled-in, sound-of}
-use Rattle.coder.proofs.Refused.{receivable, settings-refused, frame-refused, frame-received}
+use Rattle.coder.proofs.Acceptance.{unrefused-receivable}
+use Rattle.coder.proofs.Refused.{settings-refused, frame-refused, frame-received}
 use Rattle.coder.proofs.reader.read.Statement.{statement}
 use Rattle.coder.proofs.reader.read.Tie as tie
 
@@ -88,11 +89,13 @@ receive-requires c κs =
     let e = c .before .before in
     let n = e .before .before in
     let k = settings-of n in
-    let a = k .before .before .before .before .before .args in
-    (receivable (a .st) _ (a .labels .now) (a .bits .now) (worked k) (sym (n .read-refusal .ensures .0) ∙ e .if1 .left), n .read-refusal .ensures .1 (e .if1 .left))
+    let a = k .before .before .before .before .before .args in (
+      unrefused-receivable (a .st) (a .labels .now) (a .bits .now) _ (worked k) (sym (n .read-refusal .ensures .0) ∙ e .if1 .left),
+      n .read-refusal .ensures .1 (e .if1 .left),
+    )
 
-moved-on-requires : tie.Need-moved-on-requires
-moved-on-requires c κs = search needs
+done-requires : tie.Need-done-requires
+done-requires c κs = search needs
 
 same-length : tie.Need-same-length
 same-length c = search needs
@@ -104,7 +107,7 @@ returns-3 c =
     let n = e .before .before in
     let k = settings-of n in
     let a = k .before .before .before .before .before .args in
-    rw (c .moved-on .ensures)
+    rw (c .done .ensures)
     (frame-received (a .st) (a .labels .now) (a .bits .now) (k .w .given .0 .0) _ (m .receive .result) (worked k) (sym (n .read-refusal .ensures .0) ∙ e .if1 .left)
     (m .receive .ensures .0) (m .receive .ensures .1 .0) (m .receive .ensures .1 .1))
 
@@ -127,6 +130,6 @@ read-spec =
     returns-2
     slice-aggregate-receive
     receive-requires
-    moved-on-requires
+    done-requires
     same-length
     returns-3)

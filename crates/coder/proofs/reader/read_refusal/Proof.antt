@@ -1,17 +1,19 @@
 -- `coder::reader::read_refusal` meets its contract: each pass is one of the definition's tests, in their order, and the numbers are those
 -- that the pass of 11 has found. Assumes nothing.
-use mathlib.Core.Bool.{true, false}
-use mathlib.Core.Path.{_≡_, sym, _∙_}
+use mathlib.Core.Bool.{true, false, not}
+use mathlib.Core.Path.{_≡_, sym, ap, _∙_}
 use native.Mathlib.Omega.{arith}
 use borrow.Author.Needs.{needs}
 use borrow.Author.Tests.{not-true, not-false}
 use lib.ListN.{length}
+use Rattle.laws.specs.Choice.{refusal}
 use Rattle.coder.specs.State.{unfit}
 use Rattle.coder.specs.Answers.{exact}
 use Rattle.coder.specs.Turns.{Settled, Ranging}
 use Rattle.coder.specs.Receiving.{receivingOf, numbersFit}
 use Rattle.coder.proofs.Passes.{settled-in, sound-of}
-use Rattle.coder.proofs.Refused.{seven, eight, ten, eleven, twelve, none, fit-is, exact-is}
+use Rattle.coder.proofs.Acceptance.{passes-fit, passes-exact}
+use Rattle.coder.proofs.Refused.{seven, eight, ten, eleven, twelve}
 use Rattle.coder.proofs.reader.read_refusal.Statement.{statement}
 use Rattle.coder.proofs.reader.read_refusal.Tie as tie
 
@@ -44,7 +46,7 @@ ranging k =
     let a = s .args in
     record {
       settled = settled s;
-      count = exact-is (a .c) (a .lent) (length (a .labels .now)) (exactly (eight-of k)) .1;
+      count = passes-exact (a .c) (a .lent) (length (a .labels .now)) (ap not (exactly (eight-of k))) .1;
       ranges = sym (k .before .all-in-range .ensures) ∙ not-false _ (k .if3 .left);
     }
 
@@ -82,7 +84,7 @@ all-in-range-requires : tie.Need-all-in-range-requires
 all-in-range-requires c κs =
     let s = start-of (seven-of c) in
     let a = s .args in
-    record { settled = settled s; count = exact-is (a .c) (a .lent) (length (a .labels .now)) (exactly c) .1 }
+    record { settled = settled s; count = passes-exact (a .c) (a .lent) (length (a .labels .now)) (ap not (exactly c)) .1 }
 
 returns-3 : tie.Need-returns-3
 returns-3 c =
@@ -113,7 +115,7 @@ steps-all-fit-requires : tie.Need-steps-all-fit-requires
 steps-all-fit-requires c κs =
     let r = ten-of (eleven-of c) in
     let f = seven-of (eight-of r) in
-    (ranging r, fit-is (start-of f .args .st) (fit f) .1)
+    (ranging r, passes-fit (start-of f .args .st) (fit f) .1)
 
 same-length-2 : tie.Need-same-length-2
 same-length-2 c = search needs
@@ -133,13 +135,13 @@ same-length-3 : tie.Need-same-length-3
 same-length-3 c = search needs
 
 returns-6 : tie.Need-returns-6
+unfolding refusal
 returns-6 c =
     let k = c .before in
     let n = k .before in
     let r = ten-of (eleven-of n) in
-    let x = eight-of r in
-    let a = start-of (seven-of x) .args in (
-      none (a .c) (a .st) (a .labels .now) (a .lent) (fit (seven-of x)) (exactly x) (ranging r .ranges) (numbers n) (sym (k .steps-all-fit .ensures) ∙ not-false _ (c .if5 .left)),
+    let x = eight-of r in (
+      rw (fit (seven-of x), exactly x, ranging r .ranges, numbers n, sym (k .steps-all-fit .ensures) ∙ not-false _ (c .if5 .left)),
       λ done. eleven-of n .numbers-fit .ensures .1 (not-false _ (n .if4 .left)),
     )
 

@@ -14,11 +14,11 @@ use Rattle.coder.proofs.reader.receive.Statement.{statement}
 use Rattle.coder.proofs.reader.receive.Tie as tie
 
 abbrev Inv-loop : tie.InvT-loop
-Inv-loop c labels numbers bits₀ moved₀ counter₀ at₀ k₀ bits moved counter at k =
+Inv-loop c labels numbers bits₀ frames moved₀ counter₀ at₀ k₀ bits moved counter at k =
     Halfway c labels (moved₀ .z) (moved₀ .register) k moved counter at bits
 
 abbrev μ-loop : tie.MeasureT-loop
-μ-loop c labels numbers bits₀ moved₀ counter₀ at₀ k₀ bits moved counter at k = c .frames - k
+μ-loop c labels numbers bits₀ frames moved₀ counter₀ at₀ k₀ bits moved counter at k = frames - k
 
 -- the function's start, from a turn
 abbrev start-of : tie.In-loop Inv-loop μ-loop → tie.Start Inv-loop μ-loop

@@ -7,7 +7,8 @@ use Rattle.line.specs.declared.settings.Worked.the-variants.{Accepted, Refused}
 use Rattle.line.proofs.Soundness.{accepted-sound}
 use Rattle.coder.specs.Answers.{writeRefusal}
 use Rattle.coder.specs.State.{workedIn}
-use Rattle.coder.proofs.Writes.{refusedWith, settings-refused, test-refused, send-able, frame-sent}
+use Rattle.coder.proofs.Acceptance.{unrefused-sendable}
+use Rattle.coder.proofs.Writes.{refusedWith, settings-refused, test-refused, frame-sent}
 use Rattle.coder.proofs.writer.write.Statement.{statement}
 use Rattle.coder.proofs.writer.write.Tie as tie
 
@@ -71,10 +72,10 @@ send-requires : tie.Need-send-requires
 send-requires c κs =
     let w = c .before .before in
     let a = w .before .before .before .before .before .before .before .args in
-    send-able (a .st) (a .bits .now) (a .out .now) _ (accepted (w .before)) (none (c .before))
+    unrefused-sendable (a .st) (a .bits .now) (a .out .now) _ (accepted (w .before)) (none (c .before))
 
-moved-on-requires : tie.Need-moved-on-requires
-moved-on-requires c κs = search needs
+done-requires : tie.Need-done-requires
+done-requires c κs = search needs
 
 same-length : tie.Need-same-length
 same-length c = search needs
@@ -86,7 +87,7 @@ returns-3 c =
     let w = e .before in
     let a = w .before .before .before .before .before .before .before .args in
     frame-sent (a .st) (a .bits .now) (a .out .now) _ (accepted (w .before)) (none e)
-    (sent .result) (c .moved-on .result) _ (sent .ensures .1 .0) (sent .ensures .1 .1) (c .moved-on .ensures) (sent .ensures .0)
+    (sent .result) (c .done .result) _ (sent .ensures .1 .0) (sent .ensures .1 .1) (c .done .ensures) (sent .ensures .0)
 
 pub write-spec : {M : Type 1} → statement M
 write-spec =
@@ -102,6 +103,6 @@ write-spec =
     refused-requires-2
     returns-2
     send-requires
-    moved-on-requires
+    done-requires
     same-length
     returns-3)

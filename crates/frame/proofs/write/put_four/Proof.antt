@@ -6,6 +6,7 @@ use native.Mathlib.Omega.{arith}
 use lib.ListN.{length, set, length-set}
 use borrow.Author.Needs.{needs}
 use Rattle.laws.proofs.Emits.{put, put-by-stores}
+use Rattle.frame.specs.Writing.{fourNumbers}
 use Rattle.frame.proofs.write.put_four.Statement.{statement}
 use Rattle.frame.proofs.write.put_four.Tie as tie
 
@@ -56,7 +57,8 @@ same-length : tie.Need-same-length
 same-length c = search needs
 
 returns : tie.Need-returns
-returns c = let a = c .args in four-stores (a .out .now) (a .at) (a .a) (a .b) (a .c) (a .d) (c .pre)
+unfolding fourNumbers
+returns c = four-stores (c .args .out .now) (c .args .at) _ _ _ _ (c .pre)
 
 pub put-four-spec : {M : Type 1} → statement M
 put-four-spec =

@@ -1,7 +1,7 @@
 -- `rings::check::map_refusal` meets its contract: each test of the code is one of `mapRefusal`, in its order. Assumes nothing.
 use mathlib.Core.Bool.{true}
 use mathlib.Core.Path.{_≡_, sym, _∙_}
-use Prim.Native.Nat.{_*_, _%_, _^_, _<_}
+use Prim.Native.Nat.{ℕ, _*_, _%_, _^_, _≤_, _<_}
 use native.Mathlib.Omega.{arith}
 use borrow.Author.Tests.{le-leb, lt-leb, eq-eqb, ne-eqb, not-false}
 use Rattle.laws.specs.Choice.{refusal}
@@ -23,12 +23,15 @@ returns c = rw (rw (c .before .is-permitted .ensures) at (c .if1 .taken))
 allowed : (c : tie.Else1) → permitted (c .before .before .args .k) (c .before .before .args .m) ≡ true
 allowed c = sym (c .before .is-permitted .ensures) ∙ not-false _ (c .if1 .left)
 
--- so the shift is of fewer than 64
-few-bits : (c : tie.Else1) → c .before .before .args .k < 64
+-- so K, by which 1 is shifted, is less than 64
+abbrev bits : tie.Else1 → ℕ
+bits c = c .before .before .args .k
+
+few-bits : (c : tie.Else1) → bits c < 64
 few-bits c = omega (arith, permitted-is _ _ (allowed c) .bits)
 
-shifted : (c : tie.Else1) → (1 * 2 ^ c .before .before .args .k) % 2 ^ 64 ≡ 2 ^ c .before .before .args .k
-shifted c = shifted-one _ (few-bits c)
+shifted : (c : tie.Else1) → (1 * 2 ^ bits c) % 2 ^ 64 ≡ 2 ^ bits c
+shifted c = shifted-one (bits c) (few-bits c)
 
 returns-2 : tie.Need-returns-2
 unfolding mapRefusal refusal
@@ -41,13 +44,15 @@ returns-3 : tie.Need-returns-3
 unfolding mapRefusal refusal
 returns-3 c =
     let k = c .before in
-    rw (allowed (k .before), eq-eqb _ _ (k .if2 .left), lt-leb _ _ (rw (shifted (k .before)) at (c .if3 .taken)))
+    let low : k .before .before .before .args .s < 2 ^ bits (k .before) = omega (arith, shifted (k .before)) in
+    rw (allowed (k .before), eq-eqb _ _ (k .if2 .left), lt-leb _ _ low)
 
 returns-4 : tie.Need-returns-4
 unfolding mapRefusal refusal
 returns-4 c =
     let k = c .before in
-    rw (allowed (k .before), eq-eqb _ _ (k .if2 .left), le-leb _ _ (rw (shifted (k .before)) at (c .if3 .left)))
+    let high : 2 ^ bits (k .before) ≤ k .before .before .before .args .s = omega (arith, shifted (k .before)) in
+    rw (allowed (k .before), eq-eqb _ _ (k .if2 .left), le-leb _ _ high)
 
 pub map-refusal-spec : {M : Type 1} → statement M
 map-refusal-spec =

@@ -1,12 +1,12 @@
 -- `rings::entry::map` meets its contract: a refusal leaves the slice, and where none is given the rings are those of the number.
 -- Assumes nothing.
 use mathlib.Core.Path.{_≡_, sym, ap, _∙_}
-use native.Mathlib.Nat.{lt-of-lt-of-le}
+use native.Mathlib.Omega.{arith}
 use borrow.Author.Needs.{needs}
 use lib.ListN.{length}
 use Rattle.listing.specs.Sets.{asList}
-use Rattle.rings.specs.Answers.{mappedRings, mapRefusal}
-use Rattle.rings.proofs.Answering.{MapAccepted, map-accepted, map-done, map-left}
+use Rattle.rings.specs.Answers.{Mappable, mappedRings, mapRefusal, mapOut}
+use Rattle.rings.proofs.Answering.{map-accepted, map-left}
 use Rattle.rings.proofs.entry.map.Statement.{statement}
 use Rattle.rings.proofs.entry.map.Tie as tie
 
@@ -28,7 +28,7 @@ none k = sym (k .before .map-refusal .ensures) ∙ k .if1 .left
 accepted :
     (k : tie.Else1)
     → let a = k .before .before .before .args in
-    MapAccepted (a .k) (a .m) (a .s) (length (a .out .now))
+    Mappable (a .k) (a .m) (a .s) (length (a .out .now))
 accepted k = map-accepted _ _ _ _ (none k)
 
 counts-of-requires : tie.Need-counts-of-requires
@@ -38,7 +38,7 @@ rings-of-requires : tie.Need-rings-of-requires
 rings-of-requires c κs =
     let k = c .before .before .before .before in
     let a = accepted (k .before) in
-    (k .counts-of .ensures .rows, lt-of-lt-of-le (a .low) (a .allowed .room))
+    (k .counts-of .ensures .rows, omega (arith, a .low, a .allowed .room))
 
 -- the rings are those that the mapper answers
 found :
@@ -57,10 +57,11 @@ same-length : tie.Need-same-length
 same-length c = search needs
 
 returns-2 : tie.Need-returns-2
+unfolding mapOut
 returns-2 c =
     let k = c .before .before .before .before in
     let e = none (k .before .before .before .before .before .before) in
-    record { refusal = sym e; slice = c .before .before .store .ensures ∙ (found k ∙ sym (map-done _ _ _ _ e)) }
+    record { refusal = sym e; slice = rw e (c .before .before .store .ensures ∙ found k) }
 
 pub map-spec : {M : Type 1} → statement M
 map-spec =

@@ -1,18 +1,18 @@
 -- `rings::entry::rank` meets its contract: the tests come first, then the number is held against 2^K. Assumes nothing.
 use mathlib.Core.Bool.{true}
 use mathlib.Core.Path.{_≡_, sym, ap, subst, _∙_}
-use Prim.Native.Nat.{ℕ, _<_}
+use Prim.Native.Nat.{ℕ, _^_, _≤_, _<_}
 use native.Mathlib.Omega.{arith}
 use borrow.Author.Needs.{needs}
-use borrow.Author.Tests.{le-leb, lt-leb}
+use borrow.Author.Tests.{eq-eqb, le-leb, lt-leb}
 use lib.ListN.{length}
-use Rattle.laws.proofs.Choices.{given}
+use Rattle.laws.specs.Choice.{refusal}
 use Rattle.laws.proofs.Powers.{shifted-one}
 use Rattle.listing.specs.Number.{number}
 use Rattle.listing.specs.Sets.{Below8, ofList}
-use Rattle.rings.specs.Answers.{rankTested}
-use Rattle.rings.proofs.Answering.{Tested, tested, rank-refused, rank-last, rank-accepts, rank-answer}
-use Rattle.rings.proofs.Tests.{all-below}
+use Rattle.rings.specs.Answers.{rankTested, rankRefusal, rankedOf}
+use Rattle.rings.proofs.Answering.{Tested, tested, rank-refused}
+use Rattle.rings.proofs.Tests.{is-permitted, all-below}
 use Rattle.rings.proofs.entry.rank.Statement.{statement}
 use Rattle.rings.proofs.entry.rank.Tie as tie
 
@@ -42,7 +42,10 @@ number-of-requires c κs =
     (k .counts-of .ensures .rows, rw (c .load .ensures) (all-below _ _ (t .eight) (t .below)))
 
 -- no test refused the rings that are ranked
-tests : (k : tie.After-number-of) → let a = k .before .before .before .before .before .before .before .before .before .before .args in Tested (a .k) (a .m) (a .rings .now)
+tests :
+    (k : tie.After-number-of)
+    → let a = k .before .before .before .before .before .before .before .before .before .before .args in
+    Tested (a .k) (a .m) (a .rings .now)
 tests k = passed (k .before .before .before .before .before .before .before)
 
 -- the number is that of the rings
@@ -52,30 +55,32 @@ found :
     k .number-of .result ≡ number (a .m) (ofList (a .rings .now))
 found k = k .number-of .ensures ∙ rw (k .before .load .ensures)
 
--- the shift is of fewer than 64
-few-bits :
-    (k : tie.After-number-of)
-    → let a = k .before .before .before .before .before .before .before .before .before .before .args in
-    a .k < 64
+-- K, by which 1 is shifted, is less than 64
+abbrev bits : tie.After-number-of → ℕ
+bits k = k .before .before .before .before .before .before .before .before .before .before .args .k
+
+few-bits : (k : tie.After-number-of) → bits k < 64
 few-bits k = omega (arith, tests k .allowed .bits)
 
 shl-if2 : tie.Need-shl-if2
 shl-if2 c = few-bits c
 
+-- the tests that are passed, and the number, as the answer has them
 returns-2 : tie.Need-returns-2
+unfolding rankedOf rankRefusal refusal
 returns-2 c =
     let k = c .before in
     let t = tests k in
-    let high = rw (shifted-one _ (few-bits k), found k) at (c .if2 .taken) in
-    sym (rank-answer _ _ _ 11 (rank-last _ _ _ (t .allowed) (t .eight) (t .below) ∙ given _ 11 _ (le-leb _ _ high)))
+    let high : 2 ^ bits k ≤ k .number-of .result = omega (arith, shifted-one (bits k) (few-bits k)) in
+    rw (is-permitted _ _ (t .allowed), eq-eqb _ _ (t .eight), t .below, ← found k, le-leb _ _ high)
 
 returns-3 : tie.Need-returns-3
+unfolding rankedOf rankRefusal refusal
 returns-3 c =
     let k = c .before in
     let t = tests k in
-    let low = rw (shifted-one _ (few-bits k), found k) at (c .if2 .left) in
-    ap (λ (n : ℕ). record { refusal = 0; number = n }) (found k)
-    ∙ sym (rank-answer _ _ _ 0 (rank-accepts _ _ _ (record { allowed = t .allowed; eight = t .eight; below = t .below; low = low })))
+    let low : k .number-of .result < 2 ^ bits k = omega (arith, shifted-one (bits k) (few-bits k)) in
+    rw (is-permitted _ _ (t .allowed), eq-eqb _ _ (t .eight), t .below, ← found k, lt-leb _ _ low)
 
 pub rank-spec : {M : Type 1} → statement M
 rank-spec =

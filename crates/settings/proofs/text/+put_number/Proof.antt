@@ -4,6 +4,7 @@ use mathlib.Core.Path.{ap, _∙_}
 use Prim.Native.Nat.{ℕ, _<_}
 use native.Mathlib.Omega.{arith}
 use lib.ListN.{length}
+use borrow.Author.Tests.{lt-ltb, le-ltb}
 use Rattle.laws.proofs.Puts.{put-more}
 use Rattle.settings.proofs.Decimals.{decimal-digit, decimal-step, one-digit-more}
 use borrow.Fn.Kinds.{In}
@@ -50,7 +51,7 @@ put-number-put-byte-requires : (t : ℕ) → put-number-lts.Need-put-byte-requir
 ) (put-number-at t) put-number.Post
 put-number-put-byte-requires t c κs =
     let k = c .before .before .before in
-    omega (arith, k .pre .1, ap length (decimal-digit (k .args .n) (c .before .if1 .taken)))
+    omega (arith, k .pre .1, ap length (decimal-digit (k .args .n) (lt-ltb _ _ (c .before .if1 .taken))))
 
 put-number-same-length : (t : ℕ) → put-number-lts.Need-same-length (
   put-byte-reads.Asked,
@@ -68,7 +69,7 @@ put-number-returns : (t : ℕ) → put-number-lts.Need-returns (
 ) (put-number-at t) put-number.Post
 put-number-returns t c =
     let k = c .before .before .before .before in
-    rw (decimal-digit (k .before .before .args .n) (k .if1 .taken)) (c .before .before .put-byte .ensures)
+    rw (decimal-digit (k .before .before .args .n) (lt-ltb _ _ (k .if1 .taken))) (c .before .before .put-byte .ensures)
 
 put-number-put-number-requires : (t : ℕ) → put-number-lts.Need-put-number-requires (
   put-byte-reads.Asked,
@@ -78,7 +79,7 @@ put-number-put-number-requires : (t : ℕ) → put-number-lts.Need-put-number-re
 ) (put-number-at t) put-number.Post
 put-number-put-number-requires t c κs =
     let k = c .before .before .before in
-    let more = one-digit-more (k .args .n) (c .before .if1 .left) in
+    let more = one-digit-more (k .args .n) (le-ltb _ _ (c .before .if1 .left)) in
     (omega (arith, k .pre .0, c .before .if1 .left), omega (arith, k .pre .1))
 
 put-number-cast-put-byte-2 : (t : ℕ) → put-number-lts.Need-cast-put-byte-2 (
@@ -106,7 +107,7 @@ put-number-put-byte-requires-2 : (t : ℕ) → put-number-lts.Need-put-byte-requ
 put-number-put-byte-requires-2 t c κs =
     let k = c .before .before .before in
     let start = k .before .before .before .before in
-    let more = one-digit-more (start .args .n) (k .before .before .if1 .left) in
+    let more = one-digit-more (start .args .n) (le-ltb _ _ (k .before .before .if1 .left)) in
     omega (arith, start .pre .1, k .put-number .ensures .place, k .put-number .kept .0)
 
 put-number-same-length-2 : (t : ℕ) → put-number-lts.Need-same-length-2 (
@@ -126,7 +127,7 @@ put-number-returns-2 : (t : ℕ) → put-number-lts.Need-returns-2 (
 put-number-returns-2 t c =
     let k = c .before .before .before .before .before .before in
     let start = k .before .before .before .before in
-    rw (decimal-step (start .args .n) (k .before .before .if1 .left))
+    rw (decimal-step (start .args .n) (le-ltb _ _ (k .before .before .if1 .left)))
     (put-more (omega (arith, start .pre .1)) (k .put-number .ensures) (c .before .before .put-byte2 .ensures))
 
 pub +put-number-spec : {M : Type 1} → statement M

@@ -13,7 +13,7 @@ use Rattle.coder.specs.Answers.{readOf, bitsAfter}
 use Rattle.workerwax.specs.Calls.{codedNumbers}
 use Rattle.workerwax.specs.Layout.{words, labelsIn}
 use Rattle.workerwax.specs.Lending.{lentLabels}
-use Rattle.workerwax.proofs.Lends.{Lent, lent-most, lent-within}
+use Rattle.workerwax.proofs.Lends.{lent-most, lent-within}
 use Rattle.workerwax.proofs.Refusals.{read-most}
 use Rattle.workerwax.proofs.Frames.{read-refused, read-lent, read-done}
 use Rattle.workerwax.proofs.data.ww_read.Statement.{statement}
@@ -124,7 +124,8 @@ narrow-requires : tie.Need-narrow-requires
 narrow-requires c κs =
     let r = c .before .before .before .before in
     let k = labels r in
-    subst (λ (x : Coded). x .refusal ≤ 14) (sym (coded r)) (read-most (state (blank k)) (given k) (length (start (blank k) .args .bits .now)))
+    let most = read-most (state (blank k)) (given k) (length (start (blank k) .args .bits .now)) in
+    subst (λ (x : Coded). x .refusal ≤ 14) (sym (coded r)) most
 
 same-length : tie.Need-same-length
 same-length c = search needs

@@ -1,7 +1,7 @@
 -- `workerwax::data::ww_write` meets its contract: the coder refuses, or what it wrote is laid out. Assumes nothing.
 use mathlib.Core.List.{List, _++_}
 use mathlib.Core.Path.{_≡_, sym, ap, subst, _∙_}
-use Prim.Native.Nat.{ℕ, _*_, _≤_}
+use Prim.Native.Nat.{ℕ, _≤_}
 use native.Mathlib.Omega.{arith}
 use borrow.Author.Needs.{needs}
 use lib.ListN.{length, take, drop, length-append}
@@ -58,7 +58,10 @@ abbrev state : tie.After-blank → State
 state k = let a = start k .args in stateOf (a .role) (a .s) (a .n) (a .shaping) (a .mark) (a .register) (a .z)
 
 -- what the coder answered, and the labels that it wrote
-coded : (k : tie.After-write) → let b = k .before .before in k .write .result ≡ writtenOf (state b) (start b .args .bits .now) (length (part b))
+coded :
+    (k : tie.After-write)
+    → let b = k .before .before in
+    k .write .result ≡ writtenOf (state b) (start b .args .bits .now) (length (part b))
 coded k = k .write .ensures .answer
 
 abbrev labels : tie.After-write → List ℕ
@@ -107,7 +110,8 @@ returns c =
     let b = k .before .before in
     let a = start b .args in
     rw (c .narrow .ensures)
-    (write-refused (state b) (a .bits .now) (a .labels .now) (a .answer .now) (part b) (sized b) _ (ap (λ (r : Coded). r .refusal) (coded k)) (t .if1 .taken))
+    (write-refused (state b) (a .bits .now) (a .labels .now) (a .answer .now) (part b) (sized b) _
+    (ap (λ (r : Coded). r .refusal) (coded k)) (t .if1 .taken))
 
 array-share-prefix-space : tie.Need-array-share-prefix-space
 array-share-prefix-space c =

@@ -1,5 +1,6 @@
--- `workerwax::layout::put_labels` meets its contract. The loop's invariant: what is laid out and what is left make the whole. Assumes nothing.
-use mathlib.Core.Path.{_≡_, _∙_}
+-- `workerwax::layout::put_labels` meets its contract. The loop's invariant: what is laid out and what is left make the whole.
+-- Assumes nothing.
+use mathlib.Core.Path.{_≡_}
 use Prim.Native.Nat.{_+_, _-_, _*_, _≤_, _<_}
 use native.Mathlib.Omega.{arith}
 use lib.ListN.{length}
@@ -15,7 +16,8 @@ abbrev μ-loop : tie.MeasureT-loop
 μ-loop out₀ labels i₀ out i = length labels - i
 
 -- a label more
-here : (k : tie.After-shared-slice-known Inv-loop μ-loop) → k .before .before .loop .i < length (k .before .before .before .args .labels .now)
+here :
+    (k : tie.After-shared-slice-known Inv-loop μ-loop) → k .before .before .loop .i < length (k .before .before .before .args .labels .now)
 here k = search needs
 
 -- its two bytes have room

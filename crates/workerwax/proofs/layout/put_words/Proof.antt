@@ -1,6 +1,7 @@
--- `workerwax::layout::put_words` meets its contract. The loop's invariant: the numbers passed are put, and `i` is how many. Assumes nothing.
+-- `workerwax::layout::put_words` meets its contract. The loop's invariant: the numbers passed are put, and `i` is how many.
+-- Assumes nothing.
 use mathlib.Core.Path.{_≡_, _∙_}
-use Prim.Native.Nat.{_-_, _*_, _≤_, _<_}
+use Prim.Native.Nat.{_-_, _≤_, _<_}
 use native.Mathlib.Omega.{arith}
 use lib.ListN.{length, take}
 use lib.Seq.{length-take-le, take-all}
@@ -68,7 +69,7 @@ returns c =
     let k = c .before in
     let a = k .before .before .before in
     words-whole (a .args .numbers .now) (a .args .out .now) _ _ (a .pre)
-    (rw (take-all (k .loop .i) (a .args .numbers .now) (c .loop-test .left)) at (k .loop .inv .0))
+    (rw (take-all (k .loop .i) (a .args .numbers .now) (omega (arith, c .loop-test .left))) at (k .loop .inv .0))
 
 pub put-words-spec : {M : Type 1} → statement M
 put-words-spec =

@@ -1,4 +1,5 @@
--- `workerwax::layout::take_labels` meets its contract. The loop's invariant: what is taken and what is left make the whole. Assumes nothing.
+-- `workerwax::layout::take_labels` meets its contract. The loop's invariant: what is taken and what is left make the whole.
+-- Assumes nothing.
 use mathlib.Core.Path.{_≡_, _∙_}
 use Prim.Native.Nat.{ℕ, _+_, _-_, _*_, _≤_, _<_}
 use native.Mathlib.Omega.{arith}

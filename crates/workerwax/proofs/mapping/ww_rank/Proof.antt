@@ -1,10 +1,9 @@
 -- `workerwax::mapping::ww_rank` meets its contract: the ranker refuses what it is shown, or its number is laid out. Assumes nothing.
-use mathlib.Core.List.{List}
-use mathlib.Core.Path.{_≡_, sym, ap, subst, _∙_}
+use mathlib.Core.Path.{_≡_, sym, ap, _∙_}
 use Prim.Native.Nat.{_≤_}
 use native.Mathlib.Omega.{arith}
 use borrow.Author.Needs.{needs}
-use lib.ListN.{length, take}
+use lib.ListN.{length}
 use lib.Seq.{length-take-le}
 use Rattle.rings.specs.Answers.{rankedOf}
 use Rattle.rings.specs.declared.entry.Ranked.{Ranked}
@@ -26,7 +25,8 @@ start k = k .before .before .before .before
 slice-aggregate-rank : tie.Need-slice-aggregate-rank
 slice-aggregate-rank c =
     let a = start c .args in
-    let within : c .before .shown-rings .result ≤ length (a .rings .now) = omega (arith, c .before .shown-rings .ensures, shown-within (length (a .rings .now)) (length (a .answer .now))) in
+    let most = shown-within (length (a .rings .now)) (length (a .answer .now)) in
+    let within : c .before .shown-rings .result ≤ length (a .rings .now) = omega (arith, c .before .shown-rings .ensures, most) in
     sym (length-take-le (c .before .shown-rings .result) (a .rings .now) within)
 
 rank-requires : tie.Need-rank-requires
@@ -78,7 +78,8 @@ returns-2 c =
     let k = e .before .before in
     let a = start (k .before) .args in
     rank-done (a .k) (a .m) (a .rings .now) (a .answer .now) (sym (number-is k) ∙ e .if1 .left) _
-    (word-whole (k .rank .result .number) (a .answer .now) _ _ (four e) (w .put-word .ensures) ∙ ap (λ (r : Ranked). word (r .number)) (ranked k))
+    (word-whole (k .rank .result .number) (a .answer .now) _ _ (four e) (w .put-word .ensures)
+    ∙ ap (λ (r : Ranked). word (r .number)) (ranked k))
 
 pub ww-rank-spec : {M : Type 1} → statement M
 ww-rank-spec =

@@ -1,5 +1,5 @@
 -- `workerwax::starting::answer_start` meets its contract, by each of its ways out. Assumes nothing.
-use mathlib.Core.Path.{_≡_, ap, _∙_}
+use mathlib.Core.Path.{ap, _∙_}
 use native.Mathlib.Omega.{arith}
 use borrow.Author.Needs.{needs}
 use lib.ListN.{length}
@@ -15,13 +15,13 @@ returns : tie.Need-returns
 returns c =
     let t = c .before in
     let a = t .before .before .before .args in
-    rw (c .narrow .ensures) (start-refused (a .begun) (a .answer .now) (t .if1 .taken))
+    rw (c .narrow .ensures) (start-refused (a .begun) (a .answer .now) (λ z. omega (arith, z, t .if1 .taken)))
 
 returns-2 : tie.Need-returns-2
 returns-2 c =
     let e = c .before in
     let a = e .before .before .before .args in
-    start-unlent (a .begun) (a .answer .now) (e .if1 .left) (c .if2 .taken)
+    start-unlent (a .begun) (a .answer .now) (omega (arith, e .if1 .left)) (λ z. omega (arith, z, c .if2 .taken))
 
 numbers-of-requires : tie.Need-numbers-of-requires
 numbers-of-requires c κs = search needs
@@ -45,7 +45,8 @@ returns-3 c =
     let e = n .before .before .before in
     let o = e .before in
     let a = o .before .before .before .args in
-    start-done (a .begun) (a .answer .now) _ (o .if1 .left) (e .if2 .left) (w .put-words .ensures ∙ ap words (n .numbers-of .ensures))
+    start-done (a .begun) (a .answer .now) _ (omega (arith, o .if1 .left)) (omega (arith, e .if2 .left))
+    (w .put-words .ensures ∙ ap words (n .numbers-of .ensures))
 
 pub answer-start-spec : {M : Type 1} → statement M
 answer-start-spec =

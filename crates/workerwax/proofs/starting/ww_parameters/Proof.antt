@@ -57,7 +57,8 @@ returns-2 : tie.Need-returns-2
 returns-2 c =
     let k = c .before .before in
     let a = k .before .before .before .before .args in
-    parameters-unlent (a .role) (a .s) (a .n) (a .shaping) (a .mark) (a .answer .now) _ (accepted k) (c .if1 .taken)
+    parameters-unlent (a .role) (a .s) (a .n) (a .shaping) (a .mark) (a .answer .now) _ (accepted k)
+    (λ z. omega (arith, z, c .if1 .taken))
 
 values-of-requires : tie.Need-values-of-requires
 values-of-requires c κs = search needs
@@ -80,7 +81,8 @@ returns-3 c =
     let e = v .before .before in
     let k = e .before .before in
     let a = k .before .before .before .before .args in
-    parameters-done (a .role) (a .s) (a .n) (a .shaping) (a .mark) (a .answer .now) _ _ (accepted k) (e .if1 .left)
+    parameters-done (a .role) (a .s) (a .n) (a .shaping) (a .mark) (a .answer .now) _ _ (accepted k)
+    (omega (arith, e .if1 .left))
     (w .put-words .ensures ∙ ap words (v .values-of .ensures))
 
 pub ww-parameters-spec : {M : Type 1} → statement M

@@ -22,7 +22,8 @@ answer-start-requires : tie.Need-answer-start-requires
 answer-start-requires c κs =
     let k = c .before in
     let a = k .before .before .args in
-    subst (λ (r : Started). r .refusal ≤ 14) (sym (begun k)) (start-most (stateOf (a .role) (a .s) (a .n) (a .shaping) (a .mark) (a .register) (a .z)))
+    let most = start-most (stateOf (a .role) (a .s) (a .n) (a .shaping) (a .mark) (a .register) (a .z)) in
+    subst (λ (r : Started). r .refusal ≤ 14) (sym (begun k)) most
 
 same-length : tie.Need-same-length
 same-length c = search needs

@@ -1,0 +1,13 @@
+-- `coder::writer::done` meets its contract. Assumes nothing.
+use borrow.Author.Needs.{needs}
+use Rattle.coder.proofs.writer.done.Statement.{statement}
+use Rattle.coder.proofs.writer.done.Tie as tie
+
+moved-on-requires : tie.Need-moved-on-requires
+moved-on-requires c κs = search needs
+
+returns : tie.Need-returns
+returns c = rw (c .moved-on .ensures)
+
+pub done-spec : {M : Type 1} → statement M
+done-spec = tie.close (tie.spec moved-on-requires returns)

@@ -1,0 +1,258 @@
+-- Which calls get 0, for whatever outcome fits a call's contract: exactly those that say nothing wrong, with slices of exact lengths.
+--     parameters-accepts     the five settings are right
+--     map-accepts            K and M are permitted, and the number is below 2^K
+--     rank-accepts           K and M are permitted, and fewer than 2^K sets stand before the rings, which are below M
+--     start-accepts          the settings are right, the register is below 2^23 and Z at most 3
+--     short-start-accepts    the settings are right, with shaping 0
+--     write-accepts          the state is one that a start answers, and the bytes are bits
+--     read-accepts           the state is one that a start answers, and no test refuses the labels that the bytes hold
+-- and so ww_write takes every data frame of N bits from a state that a start answered, `writes-from-start`. Assumes nothing.
+use mathlib.Core.Bool.{Bool, true, false, not, cond}
+use mathlib.Core.List.{List, [], _∷_}
+use mathlib.Core.Logic.{_↔_}
+use mathlib.Core.Path.{_≡_, refl, sym, subst, _∙_}
+use Prim.Native.Nat.{ℕ, _*_, _^_, _≤_, _<_}
+use native.Mathlib.Omega.{arith}
+use lib.Dec.{eqb}
+use lib.ListN.{length}
+use borrow.Author.Tests.{eqb-true, eqb-false}
+use Rattle.laws.specs.Choice.{refusal}
+use Rattle.laws.specs.Digits.{Bits}
+use Rattle.laws.proofs.Bools.{not-not}
+use Rattle.laws.proofs.Choices.{none-first}
+use Rattle.rings.specs.Answers.{MapAnswer, Mappable, Rankable, rankedOf}
+use Rattle.rings.proofs.Acceptance.{mapper-accepts, ranker-accepts}
+use Rattle.line.specs.declared.settings.Settings.{Settings}
+use Rattle.line.specs.declared.settings.Worked.the-variants.{Accepted}
+use Rattle.line.specs.Settings.{workedOf, numberOf}
+use Rattle.line.proofs.Acceptance.{Right, unrefused-right, right-unrefused, number-is}
+use Rattle.coder.specs.declared.states.State.{State}
+use Rattle.coder.specs.State.{workedIn, startedOf, shortStartedOf}
+use Rattle.coder.specs.Receiving.{receivingOf, allInRange, numbersFit, allStepsFit}
+use Rattle.coder.specs.Answers.{Receivable}
+use Rattle.coder.proofs.Acceptance.{settings-sound, writer-accepts, reader-accepts}
+use Rattle.coder.proofs.Starting.{Fit, fit-worked, plain, start-accepts as state-accepts, short-start-accepts as plain-accepts}
+use Rattle.workerwax.specs.Calls.{own, ParametersCall, RankCall, StartCall, WriteCall, ReadCall}
+use Rattle.workerwax.specs.Layout.{labelsIn}
+use Rattle.workerwax.specs.Lending.{lentLabels}
+use Rattle.workerwax.proofs.Lends.{lent-exact, length-labels}
+use Rattle.workerwax.proofs.Frames.{all-given}
+use Rattle.workerwax.proofs.Ways.{rank-same, rank-is, rank-four}
+use Rattle.workerwax.proofs.Below.{part, part-length, written-number, sendable, written-lent}
+use Rattle.workerwax.proofs.Below.{given, read-number, receivable, given-lent, read-given}
+
+-- a call that is refused by a part of it, or for one length
+own-parts : (number lent size : ℕ) → refusal (own number ∷ (not (eqb lent size), 8) ∷ []) ≡ 0 → (number ≡ 0) × (lent ≡ size)
+unfolding refusal
+own-parts number lent size = go (eqb number 0) refl
+  where
+    go :
+        (v : Bool) → eqb number 0 ≡ v → cond (not v) number (refusal ((not (eqb lent size), 8) ∷ [])) ≡ 0
+        → (number ≡ 0) × (lent ≡ size)
+    go true e rest = (eqb-true number 0 e, eqb-true lent size (not-not (eqb lent size) (none-first (not (eqb lent size)) 7 [] rest)))
+    go false e zero = absurd (eqb-false number 0 e zero)
+
+pub parameters-accepts :
+    (role s n shaping mark : ℕ) (answer : List ℕ) (r : ℕ) (after : List ℕ)
+    → ParametersCall (workedOf role s n shaping mark) answer r after
+    → (r ≡ 0) ↔ (Right role s n shaping mark × (length answer ≡ 32))
+unfolding refusal
+parameters-accepts role s n shaping mark answer r after call = (there, back)
+  where
+    back : Right role s n shaping mark × (length answer ≡ 32) → r ≡ 0
+    back p =
+        let none = number-is role s n shaping mark ∙ right-unrefused role s n shaping mark (p .0) in
+        call .number ∙ rw (none, p .1)
+
+    there : r ≡ 0 → Right role s n shaping mark × (length answer ≡ 32)
+    there zero =
+        let parts = own-parts (numberOf (workedOf role s n shaping mark)) (length answer) 32 (sym (call .number) ∙ zero) in
+        (unrefused-right role s n shaping mark (sym (number-is role s n shaping mark) ∙ parts .0), parts .1)
+
+pub map-accepts :
+    (K M S : ℕ) (rings : List ℕ) (r : ℕ) (after : List ℕ) → MapAnswer K M S rings r after → (r ≡ 0) ↔ Mappable K M S (length rings)
+map-accepts K M S rings r after call =
+    let same = mapper-accepts K M S (length rings) in
+    ((λ zero. same .0 (sym (call .refusal) ∙ zero)), (λ p. call .refusal ∙ same .1 p))
+
+pub rank-accepts :
+    (K M : ℕ) (rings answer : List ℕ) (r : ℕ) (after : List ℕ) → RankCall K M rings answer r after
+    → (r ≡ 0) ↔ (Rankable K M rings × (length answer ≡ 4))
+unfolding rankedOf
+rank-accepts K M rings answer r after call = (there, back)
+  where
+    there : r ≡ 0 → Rankable K M rings × (length answer ≡ 4)
+    there zero =
+        let four = rank-four K M rings answer (rank-is K M rings answer ∙ (sym (call .refusal) ∙ zero)) in
+        (ranker-accepts K M rings .0 (sym (rank-same K M rings answer four) ∙ (sym (call .refusal) ∙ zero)), four)
+
+    back : Rankable K M rings × (length answer ≡ 4) → r ≡ 0
+    back p = call .refusal ∙ (rank-same K M rings answer (p .1) ∙ ranker-accepts K M rings .1 (p .0))
+
+pub start-accepts :
+    (st : State) (answer : List ℕ) (r : ℕ) (after : List ℕ) → StartCall (startedOf st) answer r after
+    → (r ≡ 0) ↔ (Fit st × (length answer ≡ 28))
+unfolding refusal
+start-accepts st answer r after call = (there, back)
+  where
+    back : Fit st × (length answer ≡ 28) → r ≡ 0
+    back p = call .number ∙ rw (state-accepts st .1 (p .0), p .1)
+
+    there : r ≡ 0 → Fit st × (length answer ≡ 28)
+    there zero =
+        let parts = own-parts (startedOf st .refusal) (length answer) 28 (sym (call .number) ∙ zero) in
+        (state-accepts st .0 (parts .0), parts .1)
+
+-- the short start is the full one with shaping 0, register 0 and Z 0
+pub short-start-accepts :
+    (role s n mark : ℕ) (answer : List ℕ) (r : ℕ) (after : List ℕ) → StartCall (shortStartedOf role s n mark) answer r after
+    → (r ≡ 0) ↔ (Right role s n 0 mark × (length answer ≡ 28))
+unfolding shortStartedOf
+short-start-accepts role s n mark answer r after call =
+    let same = start-accepts (plain role s n mark) answer r after call in
+    let fit = state-accepts (plain role s n mark) in (
+      λ zero. let p = same .0 zero in (p .0 .right, p .1),
+      λ p. same .1 (fit .0 (plain-accepts role s n mark .1 (p .0)), p .1),
+    )
+
+-- what ww_write takes: the settings are those of the state, the state is fit, the bytes are bits, and all three lengths are exact
+pub record SendableBytes (st : State) (c : Settings) (bits lent answer : List ℕ) : Type 0 where
+  pub worked : workedIn st ≡ Accepted c
+  pub held : st .register < 2 ^ 23
+  pub turn : st .z ≤ 3
+  pub binary : Bits bits
+  pub size : length bits ≡ c .bits
+  pub room : length lent ≡ 32 * c .frames
+  pub answered : length answer ≡ 32
+
+pub write-accepts :
+    (st : State) (bits lent answer : List ℕ) (r : ℕ) (labels after : List ℕ) → WriteCall st bits lent answer r labels after
+    → (r ≡ 0) ↔ ((c : Settings) × SendableBytes st c bits lent answer)
+write-accepts st bits lent answer r labels after call = (there, back)
+  where
+    space : List ℕ
+    space = part st bits lent answer r labels after call
+
+    there : r ≡ 0 → (c : Settings) × SendableBytes st c bits lent answer
+    there zero =
+        let found = sendable st bits lent answer r labels after call zero in
+        let w = found .1 in
+        let l = written-lent st bits lent answer r labels after call zero in (
+          found .0,
+          record {
+            worked = w .worked;
+            held = w .held;
+            turn = w .turn;
+            binary = w .binary;
+            size = w .size;
+            room = omega (arith, l .half, w .labels);
+            answered = omega (arith, l .answered);
+          },
+        )
+
+    back : (c : Settings) × SendableBytes st c bits lent answer → r ≡ 0
+    back p =
+        let c = p .0 in
+        let w = p .1 in
+        let few = settings-sound st c (w .worked) .frames-most in
+        let half =
+        lent-exact (length lent) (length answer) (16 * c .frames) (omega (arith, w .answered)) (omega arith) (omega (arith, w .room))
+        in
+        let long = part-length st bits lent answer r labels after call ∙ half in
+        written-number st bits lent answer r labels after call
+        ∙ writer-accepts st bits space .1
+        (c, record { worked = w .worked; held = w .held; turn = w .turn; binary = w .binary; size = w .size; labels = long })
+
+-- what ww_read takes: no test refuses the labels that the bytes hold
+pub record ReceivableBytes (st : State) (c : Settings) (labels lent answer : List ℕ) : Type 0 where
+  pub worked : workedIn st ≡ Accepted c
+  pub held : st .register < 2 ^ 23
+  pub turn : st .z ≤ 3
+  pub count : length labels ≡ 32 * c .frames
+  pub size : length lent ≡ c .bits
+  pub answered : length answer ≡ 32
+  pub ranges : allInRange c (labelsIn labels) ≡ true
+  pub numbers : numbersFit c (c .frames) (receivingOf (st .z) (labelsIn labels)) ≡ true
+  pub steps : allStepsFit c (c .frames) (receivingOf (st .z) (labelsIn labels)) ≡ true
+
+pub read-accepts :
+    (st : State) (labels lent answer : List ℕ) (r : ℕ) (bits after : List ℕ) → ReadCall st labels lent answer r bits after
+    → (r ≡ 0) ↔ ((c : Settings) × ReceivableBytes st c labels lent answer)
+read-accepts st labels lent answer r bits after call = (there, back)
+  where
+    taken : List ℕ
+    taken = given st labels lent answer r bits after call
+
+    there : r ≡ 0 → (c : Settings) × ReceivableBytes st c labels lent answer
+    there zero =
+        let found = receivable st labels lent answer r bits after call zero in
+        let all = read-given st labels lent answer r bits after call zero in
+        let w = subst (λ (l : List ℕ). Receivable st (found .0) l lent) all (found .1) in
+        let l = given-lent st labels lent answer r bits after call zero in
+        let halves = length-labels (lentLabels (length labels) (length answer)) labels (l .half) in (
+          found .0,
+          record {
+            worked = w .worked;
+            held = w .held;
+            turn = w .turn;
+            count = omega (arith, l .half, halves, w .count);
+            size = w .size;
+            answered = omega (arith, l .answered);
+            ranges = w .ranges;
+            numbers = w .numbers;
+            steps = w .steps;
+          },
+        )
+
+    back : (c : Settings) × ReceivableBytes st c labels lent answer → r ≡ 0
+    back p =
+        let c = p .0 in
+        let w = p .1 in
+        let sound = settings-sound st c (w .worked) in
+        let few = sound .frames-most in
+        let half =
+        lent-exact (length labels) (length answer) (16 * c .frames) (omega (arith, w .answered)) (omega arith) (omega (arith, w .count))
+        in
+        let all = all-given st labels lent answer taken refl (λ z. omega (arith, z, half, sound .frames-least)) in
+        let count = length-labels (16 * c .frames) labels (omega (arith, w .count)) in
+        let takes : Receivable st c (labelsIn labels) lent =
+        record {
+          worked = w .worked;
+          held = w .held;
+          turn = w .turn;
+          count = count;
+          size = w .size;
+          ranges = w .ranges;
+          numbers = w .numbers;
+          steps = w .steps;
+        }
+        in
+        read-number st labels lent answer r bits after call
+        ∙ reader-accepts st taken lent .1 (c, subst (λ (l : List ℕ). Receivable st c l lent) (sym all) takes)
+
+-- From a start that answered 0: its state has settings, and ww_write answers 0 to every N bits with exact lengths.
+pub writes-from-start :
+    (st : State) (answer after : List ℕ) → StartCall (startedOf st) answer 0 after
+    → (c : Settings)
+    × (workedIn st ≡ Accepted c)
+    × ((bits lent room : List ℕ) → Bits bits → length bits ≡ c .bits → length lent ≡ 32 * c .frames → length room ≡ 32
+    → (r : ℕ) (labels next : List ℕ) → WriteCall st bits lent room r labels next → r ≡ 0)
+writes-from-start st answer after start =
+    let fit = start-accepts st answer 0 after start .0 refl .0 in
+    let found = fit-worked st fit in (
+      found .0,
+      found .1,
+      λ bits lent room binary size long answered r labels next call.
+          write-accepts st bits lent room r labels next call .1 (
+            found .0,
+            record {
+              worked = found .1;
+              held = fit .held;
+              turn = fit .turn;
+              binary = binary;
+              size = size;
+              room = long;
+              answered = answered;
+            },
+          ),
+    )
