@@ -1,6 +1,8 @@
--- Demand 2 as one statement about any writer and any reader, that ours meet it, and that no useless version does: one that refuses
--- everything, one that leaves what it was lent, one whose output is always the same, and one that codes only the first mapping frame,
--- however it pads the rest. So such a version is refused whatever definition is changed along with the code. Assumes nothing.
+-- Demand 2 as one statement about any writer and any reader, that ours meet it, and that no useless version does: a writer or a reader
+-- that refuses everything, leaves what it was lent, or whose output is always the same; a writer that codes only the first mapping frame,
+-- however it pads the rest; and, of readers of what our writer writes, one that reads only the first mapping frame. (Another writer could
+-- put all its bits into the first labels.) So such a version is refused whatever definition is changed along with the code. Assumes
+-- nothing.
 use mathlib.Core.Bool.{Bool, true, false}
 use mathlib.Core.List.{List, _++_}
 use mathlib.Core.Path.{_≡_, refl, sym, ap, _∙_}
@@ -158,6 +160,10 @@ module _ (st : State) (c : Settings) (fit : Fit st) (worked : workedIn st ≡ Ac
     never-same : reader .buffer st (again writer st (frame 0) space) ≡ reader .buffer st (again writer st (frame 1) space) → ⊥
     unfolding frame
     never-same e = endings-differ (sym (back 0 (omega arith) .back) ∙ (e ∙ back 1 (omega arith) .back))
+
+    -- no such reader goes by nothing of what it is given: it neither leaves what it was lent nor always gives the same
+    pub reader-looks : OnlyFront reader st 0 → ⊥
+    reader-looks only = never-same (only _ _ refl refl)
 
     -- no such writer goes by the first mapping frame alone
     pub writer-looks-further : OnlyFront writer st (lengthNext c 0) → ⊥

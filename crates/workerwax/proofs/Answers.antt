@@ -113,6 +113,24 @@ pub record Next (st : State) (after : List ℕ) : Type 0 where
   pub says : numbersIn after ≡ settings .bits ∷ stateNumbers next
   pub fit : Fit next
 
+-- Whichever way the data frame went: `coded` is the answer, with the settings c of the state.
+module _
+    (st : State) (c : Settings) (coded : Coded) (after : List ℕ)
+    (worked : workedIn st ≡ Accepted c) (count : coded .bits ≡ c .bits) (fit : Fit (coded .state)) (is : after ≡ words (codedNumbers coded))
+  where
+    words-say : numbersIn after ≡ codedNumbers coded
+    words-say = ap numbersIn is ∙ numbers-back (codedNumbers coded) (coded-short c coded (settings-sound st c worked) count fit)
+
+    leads-on : Next st after
+    leads-on =
+        record {
+          settings = c;
+          worked = worked;
+          next = coded .state;
+          says = words-say ∙ ap (λ (n : ℕ). n ∷ stateNumbers (coded .state)) count;
+          fit = fit;
+        }
+
 -- ww_write.
 module _ (st : State) (bits lent answer labels after : List ℕ) (call : WriteCall st bits lent answer 0 labels after) where
   abbrev coded : Coded
@@ -139,20 +157,14 @@ module _ (st : State) (bits lent answer labels after : List ℕ) (call : WriteCa
       let w = sendable st bits lent answer 0 labels after call refl .1 in
       subst (λ (x : Coded). Fit (x .state)) is-coded (write-stays st bits out (worked-fit st found worked (w .held) (w .turn)))
 
+  laid : after ≡ words (codedNumbers coded)
+  laid = written-answer st bits lent answer 0 labels after call refl ∙ ap (λ (x : Coded). words (codedNumbers x)) is-coded
+
   pub write-words : numbersIn after ≡ codedNumbers (written (workedIn st) st bits)
-  write-words =
-      ap numbersIn (written-answer st bits lent answer 0 labels after call refl ∙ ap (λ (x : Coded). words (codedNumbers x)) is-coded)
-      ∙ numbers-back (codedNumbers coded) (coded-short found coded (settings-sound st found worked) count onward)
+  write-words = words-say st found coded after worked count onward laid
 
   pub write-next : Next st after
-  write-next =
-      record {
-        settings = found;
-        worked = worked;
-        next = coded .state;
-        says = write-words ∙ ap (λ (n : ℕ). n ∷ stateNumbers (coded .state)) count;
-        fit = onward;
-      }
+  write-next = leads-on st found coded after worked count onward laid
 
   pub write-last : getD (numbersIn after) 7 0 ≡ lastZ (labelsIn labels)
   write-last =
@@ -187,21 +199,14 @@ module _ (st : State) (labels lent answer bits after : List ℕ) (call : ReadCal
       let w = receivable st labels lent answer 0 bits after call refl .1 in
       subst (λ (x : Coded). Fit (x .state)) is-decoded (read-stays st taken lent (worked-fit st found-read worked-read (w .held) (w .turn)))
 
+  laid-read : after ≡ words (codedNumbers decoded)
+  laid-read = read-answer st labels lent answer 0 bits after call refl ∙ ap (λ (x : Coded). words (codedNumbers x)) is-decoded
+
   pub read-words : numbersIn after ≡ codedNumbers (received (workedIn st) st (labelsIn labels))
-  read-words =
-      ap numbersIn (read-answer st labels lent answer 0 bits after call refl ∙ ap (λ (x : Coded). words (codedNumbers x)) is-decoded)
-      ∙ numbers-back (codedNumbers decoded)
-      (coded-short found-read decoded (settings-sound st found-read worked-read) count-read onward-read)
+  read-words = words-say st found-read decoded after worked-read count-read onward-read laid-read
 
   pub read-next : Next st after
-  read-next =
-      record {
-        settings = found-read;
-        worked = worked-read;
-        next = decoded .state;
-        says = read-words ∙ ap (λ (n : ℕ). n ∷ stateNumbers (decoded .state)) count-read;
-        fit = onward-read;
-      }
+  read-next = leads-on st found-read decoded after worked-read count-read onward-read laid-read
 
   pub read-last : getD (numbersIn after) 7 0 ≡ lastZ (labelsIn labels)
   read-last =
