@@ -4,8 +4,8 @@
  *     settings FOLDER
  *
  * writes FOLDER/NNN.input and FOLDER/NNN.expected for NNN from 000 on. tools/host-tests runs the settings program on
- * each input and compares. The settings program takes five bytes, role, s, n, shaping and mark; any other number of
- * bytes is refused with 8, and that is tested first.
+ * each input and compares. The settings program takes a byte for each of the settings; any other number of bytes is
+ * refused with 8, and that is tested first.
  */
 #include <inttypes.h>
 #include <stdio.h>
@@ -57,8 +57,8 @@ static void print_expected(FILE *to, const struct input *input)
     uint8_t answer[WW_PARAMETERS_BYTES];
     uint32_t refused = WW_BAD_LENGTH;
     size_t i;
-    if (input->length == 5) {
-        refused = second_parameters(x[0], x[1], x[2], x[3], x[4], answer, sizeof answer);
+    if (input->length == WW_SETTINGS_NUMBERS) {
+        refused = second_parameters(WW_SETTINGS(x), answer, sizeof answer);
     }
     if (refused != WW_DONE) {
         fprintf(to, "refused %" PRIu32 "\n", refused);

@@ -9,8 +9,8 @@
  *
  * How does it work?
  *
- * Seven calls, each on numbers and lent byte slices. The library keeps nothing between two calls and allocates nothing,
- * so calls may run in any number of threads. The state of a line is seven numbers that the caller holds: a start gives
+ * Each call takes numbers and lent byte slices. The library keeps nothing between two calls and allocates nothing, so
+ * calls may run in any number of threads. The state of a line is a row of numbers that the caller holds: a start gives
  * the first ones, and the writer and the reader each give the next. Every call tests everything itself.
  *
  * Numbers. Every number is a uint64_t. A narrower type would let a C conversion turn mark 257, which states nothing,
@@ -23,9 +23,9 @@
  * A length other than the exact one is not an error of the caller's: it is refused with WW_BAD_LENGTH and nothing is
  * touched.
  *
- * Results. Every call returns WW_DONE or the number of a refusal. Among several refusals the first in the order of
- * their numbers is given, but ww_map and ww_rank test WW_BAD_COUNTS first. A refusal leaves every lent slice as it was,
- * the answer too.
+ * Results. Every call returns WW_DONE or the number of a refusal. Of several refusals the first in the order of
+ * WW_REFUSALS_IN_ORDER is given, which is not that of their numbers throughout. A refusal leaves every lent slice as it
+ * was, the answer too.
  *
  * Answers. What else there is to say goes into the lent answer: numbers of 32 bits, four bytes each, low byte first, in
  * the order given at the call. ww_number takes one out. Its places are the WW_PARAMETERS_.., WW_STATE_.. below.
@@ -68,6 +68,23 @@ extern "C" {
 #define WW_BAD_COUNTS 13u     /* K is above 31, M is not 1 to 18, or 2^K is above M^8 */
 #define WW_BAD_NUMBER 14u     /* the number to be mapped is not below 2^K */
 
+/* Every refusal, in the one order in which each call tests for its own. X is a macro that takes the name of one. */
+#define WW_REFUSALS_IN_ORDER(X) \
+    X(WW_BAD_ROLE) \
+    X(WW_BAD_SYMBOL_RATE) \
+    X(WW_BAD_RATE) \
+    X(WW_BAD_SHAPING) \
+    X(WW_UNSTATED_MARK) \
+    X(WW_NO_LARGE) \
+    X(WW_BAD_STATE) \
+    X(WW_BAD_COUNTS) \
+    X(WW_BAD_LENGTH) \
+    X(WW_BAD_BIT) \
+    X(WW_BAD_LABEL) \
+    X(WW_BAD_SET) \
+    X(WW_BAD_STEP) \
+    X(WW_BAD_NUMBER)
+
 /* Exact lengths in bytes. Each has a getter beside it, for languages that cannot read a macro. */
 #define WW_PARAMETERS_BYTES 32 /* answer of ww_parameters */
 #define WW_RINGS_BYTES 8       /* rings of ww_map and ww_rank, one to a byte */
@@ -109,11 +126,12 @@ static inline size_t ww_max_labels_bytes(void) { return WW_MAX_LABELS_BYTES; }
 #define WW_STATE_MARK 4
 #define WW_STATE_REGISTER 5
 #define WW_STATE_Z 6
-#define WW_STATE_NUMBERS 7
+#define WW_STATE_NUMBERS 7    /* in a state */
+#define WW_SETTINGS_NUMBERS 5 /* of them the settings, which stand first */
 #define WW_NEXT_BITS 0  /* in the answers of ww_write and ww_read: N */
 #define WW_NEXT_STATE 1 /* in the answers of ww_write and ww_read: the next state's first number */
 
-/* Seven numbers of a state, and the first five of them, as the arguments of a call. */
+/* The numbers of a state, and the settings alone, as the arguments of a call. */
 #define WW_STATE(x) (x)[0], (x)[1], (x)[2], (x)[3], (x)[4], (x)[5], (x)[6]
 #define WW_SETTINGS(x) (x)[0], (x)[1], (x)[2], (x)[3], (x)[4]
 
@@ -131,12 +149,14 @@ static inline uint32_t ww_label(const uint8_t *labels, size_t place)
 }
 
 /*
- * The settings, the same five numbers at every call that takes them:
+ * The settings, the same numbers at every call that takes them:
  *   role      0 call modem, 1 answer modem: which polynomial of clause 7. It is the sending end's, in the reader too
  *   s         symbol rate, 0 to 5: 2400, 2743, 2800, 3000, 3200, 3429 (Table 7)
  *   n         data rate in steps of 2,400 bit/s: 1 to 9 where s is 0; from 2 up to 11, 11, 12, 13 and 14 where s is 1 to 5
  *   shaping   0 minimum M, 1 expanded M (Table 10)
  *   mark      0 the far end has no large constellation (of up to 1664 points), 1 it has, any other number: nobody has said
+ *
+ * Refused for them: 1, 2, 3, 4, 5, 6.
  */
 
 /*
@@ -144,7 +164,7 @@ static inline uint32_t ww_label(const uint8_t *labels, size_t place)
  *
  * Owed: answer of WW_PARAMETERS_BYTES.
  * Given: N P b r K q M L.
- * Refused: 1, 2, 3, 4, 5, 6, then 8.
+ * Refused: for the settings, then 8.
  */
 uint32_t ww_parameters(uint64_t role, uint64_t s, uint64_t n, uint64_t shaping, uint64_t mark,
                        uint8_t *answer, size_t answer_length) WW_MUST_USE;
@@ -176,7 +196,7 @@ uint32_t ww_rank(uint64_t k, uint64_t m, const uint8_t *rings, size_t rings_leng
  *
  * Owed: answer of WW_START_BYTES.
  * Given: role s n shaping mark register Z.
- * Refused: 1, 2, 3, 4, 5, 6, 7, then 8.
+ * Refused: for the settings, then 7, then 8.
  */
 uint32_t ww_start(uint64_t role, uint64_t s, uint64_t n, uint64_t shaping, uint64_t mark, uint64_t reg, uint64_t z,
                   uint8_t *answer, size_t answer_length) WW_MUST_USE;
@@ -186,7 +206,7 @@ uint32_t ww_start(uint64_t role, uint64_t s, uint64_t n, uint64_t shaping, uint6
  *
  * Owed: answer of WW_START_BYTES.
  * Given: role s n 0 mark 0 0.
- * Refused: 1, 2, 3, 5, 6, then 8.
+ * Refused: for the settings but never 4, then 8.
  */
 uint32_t ww_short_start(uint64_t role, uint64_t s, uint64_t n, uint64_t mark,
                         uint8_t *answer, size_t answer_length) WW_MUST_USE;
@@ -199,7 +219,7 @@ uint32_t ww_short_start(uint64_t role, uint64_t s, uint64_t n, uint64_t mark,
  *
  * Owed: bits of N bytes, each 0 or 1; labels of 32*P bytes; answer of WW_WRITE_BYTES.
  * Given: the labels, and in answer N and then the next state: role s n shaping mark register Z.
- * Refused: 1, 2, 3, 4, 5, 6, 7, then 8 (any of the three lengths), then 9.
+ * Refused: for the settings, then 7, then 8 (any of the lengths), then 9.
  */
 uint32_t ww_write(uint64_t role, uint64_t s, uint64_t n, uint64_t shaping, uint64_t mark, uint64_t reg, uint64_t z,
                   const uint8_t *bits, size_t bits_length, uint8_t *labels, size_t labels_length,
@@ -215,7 +235,7 @@ uint32_t ww_write(uint64_t role, uint64_t s, uint64_t n, uint64_t shaping, uint6
  *
  * Owed: labels of 32*P bytes; bits of N bytes; answer of WW_READ_BYTES.
  * Given: the bits, one to a byte, and in answer N and then the next state: role s n shaping mark register Z.
- * Refused: 1, 2, 3, 4, 5, 6, 7, then 8 (any of the three lengths, an odd one of labels too), then 10, 11 and 12: all
+ * Refused: for the settings, then 7, then 8 (any of the lengths, an odd one of labels too), then 10, 11 and 12. All
  * labels of the data frame are tested for 10 before any for 11, and all for 11 before any for 12.
  */
 uint32_t ww_read(uint64_t role, uint64_t s, uint64_t n, uint64_t shaping, uint64_t mark, uint64_t reg, uint64_t z,

@@ -5,7 +5,7 @@
 #include "workerwax.h"
 
 struct settings_case {
-    uint64_t settings[5];
+    uint64_t settings[WW_SETTINGS_NUMBERS];
     uint32_t due;
     uint32_t answer[8];
 };

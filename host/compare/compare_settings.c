@@ -4,6 +4,7 @@
 #include "compare.h"
 #include "lines.h"
 #include "random.h"
+#include "refusals.h"
 #include "workerwax.h"
 
 static const uint64_t registers[] = {0, ((uint64_t)1 << 23) - 1, (uint64_t)1 << 23, (uint64_t)1 << 32};
@@ -19,7 +20,7 @@ static uint64_t wide(size_t which, uint64_t legal)
 
 static void try_parameters(struct tally *tally, const uint64_t *x, uint32_t due)
 {
-    const struct call call = {PARAMETERS, {x[0], x[1], x[2], x[3], x[4]}, {room(WW_PARAMETERS_BYTES)}};
+    const struct call call = {PARAMETERS, {WW_SETTINGS(x)}, {room(WW_PARAMETERS_BYTES)}};
     compare(tally, &call, due);
 }
 
@@ -27,7 +28,7 @@ static void try_start(struct tally *tally, const uint64_t *x, uint32_t due)
 {
     struct call call = {START, {0}, {room(WW_START_BYTES)}};
     size_t i;
-    memcpy(call.number, x, sizeof call.number);
+    memcpy(call.number, x, WW_STATE_NUMBERS * sizeof x[0]);
     if (compare(tally, &call, due) == WW_DONE) {
         for (i = 0; i < WW_STATE_NUMBERS; i++) {
             demand(ww_number(compared(0), i) == x[i], "the first state is not what was given");
@@ -35,12 +36,18 @@ static void try_start(struct tally *tally, const uint64_t *x, uint32_t due)
     }
 }
 
+static struct call short_start_call(const uint64_t *x, struct slice answer)
+{
+    const struct call call = {SHORT_START, {x[WW_STATE_ROLE], x[WW_STATE_S], x[WW_STATE_N], x[WW_STATE_MARK]}, {answer}};
+    return call;
+}
+
 static void try_short_start(struct tally *tally, const uint64_t *x, uint32_t due)
 {
-    const struct call call = {SHORT_START, {x[0], x[1], x[2], x[4]}, {room(WW_START_BYTES)}};
+    const struct call call = short_start_call(x, room(WW_START_BYTES));
     if (compare(tally, &call, due) == WW_DONE) {
         demand(ww_number(compared(0), WW_STATE_SHAPING) == 0 && ww_number(compared(0), WW_STATE_REGISTER) == 0 &&
-                   ww_number(compared(0), WW_STATE_Z) == 0 && ww_number(compared(0), WW_STATE_MARK) == x[4],
+                   ww_number(compared(0), WW_STATE_Z) == 0 && ww_number(compared(0), WW_STATE_MARK) == x[WW_STATE_MARK],
                "a short start takes shaping, register and Z as 0 and nothing else");
     }
 }
@@ -50,60 +57,59 @@ static void try_all_settings(struct tally *tally)
 {
     uint64_t number;
     for (number = 0; number < 3 * 7 * 17 * 3 * 4; number++) {
-        uint64_t x[7] = {number % 3, number / 3 % 7, number / 21 % 17, number / 357 % 3, number / 1071, 0, 0};
+        uint64_t x[WW_STATE_NUMBERS] = {number % 3, number / 3 % 7, number / 21 % 17, number / 357 % 3, number / 1071, 0, 0};
         size_t i;
         try_parameters(tally, x, NOT_KNOWN);
-        if (x[3] == 0) {
+        if (x[WW_STATE_SHAPING] == 0) {
             try_short_start(tally, x, NOT_KNOWN);
         }
         for (i = 0; i < 4 * 6; i++) {
-            x[5] = registers[i / 6];
-            x[6] = zs[i % 6];
+            x[WW_STATE_REGISTER] = registers[i / 6];
+            x[WW_STATE_Z] = zs[i % 6];
             try_start(tally, x, NOT_KNOWN);
         }
     }
 }
 
-/* Each number of a permitted start replaced by one that a narrower type would let through. */
+/* Each number of a permitted start replaced by one that a narrower type would let through. Some registers are in range. */
 static void try_wide(struct tally *tally, const struct line *line)
 {
-    static const uint32_t due[7] = {WW_BAD_ROLE,      WW_BAD_SYMBOL_RATE, WW_BAD_RATE, WW_BAD_SHAPING,
-                                    WW_UNSTATED_MARK, NOT_KNOWN,          WW_BAD_STATE};
     size_t place, which;
-    for (place = 0; place < 7; place++) {
+    for (place = 0; place < WW_STATE_NUMBERS; place++) {
+        const uint32_t due = place == WW_STATE_REGISTER ? NOT_KNOWN : due_for_number[place];
         for (which = 0; which < 5; which++) {
-            uint64_t x[7] = {line->settings[0], line->settings[1], line->settings[2], line->settings[3], line->settings[4],
-                             random_below((uint64_t)1 << 23), random_below(4)};
+            uint64_t x[WW_STATE_NUMBERS] = {WW_SETTINGS(line->settings), random_below((uint64_t)1 << 23), random_below(4)};
             x[place] = wide(which, x[place]);
-            try_start(tally, x, due[place]);
-            if (place < 5) {
-                try_parameters(tally, x, due[place]);
+            try_start(tally, x, due);
+            if (place < WW_SETTINGS_NUMBERS) {
+                try_parameters(tally, x, due);
             }
-            if (place < 3 || place == 4) {
-                try_short_start(tally, x, due[place]);
+            if (place < WW_SETTINGS_NUMBERS && place != WW_STATE_SHAPING) {
+                try_short_start(tally, x, due);
             }
         }
     }
 }
 
+/* A wrong length, alone and with a fault in another number: the role, or the Z of a start. */
 static void try_length(struct tally *tally, const struct line *line, struct slice answer, int with_fault)
 {
     const uint64_t *x = line->settings;
-    uint64_t role = with_fault ? 2 : x[0];
-    uint64_t z = with_fault ? 4 : 0;
-    const struct call parameters = {PARAMETERS, {role, x[1], x[2], x[3], x[4]}, {answer}};
-    const struct call start = {START, {x[0], x[1], x[2], x[3], x[4], 1, z}, {answer}};
-    const struct call short_start = {SHORT_START, {role, x[1], x[2], x[4]}, {answer}};
+    struct call parameters = {PARAMETERS, {WW_SETTINGS(x)}, {answer}}, short_start = short_start_call(x, answer);
+    struct call start = {START, {WW_SETTINGS(x), 1, 0}, {answer}};
+    if (with_fault) {
+        parameters.number[WW_STATE_ROLE] = short_start.number[WW_STATE_ROLE] = 2;
+        start.number[WW_STATE_Z] = 4;
+    }
     if (answer.stated != WW_PARAMETERS_BYTES) {
-        compare(tally, &parameters, with_fault ? WW_BAD_ROLE : WW_BAD_LENGTH);
+        compare(tally, &parameters, first_due(WW_BAD_LENGTH, with_fault ? WW_BAD_ROLE : WW_DONE));
     }
     if (answer.stated != WW_START_BYTES) {
-        compare(tally, &start, with_fault ? WW_BAD_STATE : WW_BAD_LENGTH);
-        compare(tally, &short_start, with_fault ? WW_BAD_ROLE : WW_BAD_LENGTH);
+        compare(tally, &start, first_due(WW_BAD_LENGTH, with_fault ? WW_BAD_STATE : WW_DONE));
+        compare(tally, &short_start, first_due(WW_BAD_LENGTH, with_fault ? WW_BAD_ROLE : WW_DONE));
     }
 }
 
-/* The length comes after the settings, and after 7. */
 static void try_lengths(struct tally *tally, const struct line *line)
 {
     static const size_t lengths[] = {0, 1, 4, 27, 28, 29, 31, 32, 33, 56, 64, 256 + 28, 256 + 32};

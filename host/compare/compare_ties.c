@@ -1,18 +1,31 @@
 /*
  * compare_ties.c: several faults at once, so that the order of the refusals is seen.
  *
- * A good call of the writer or the reader gets one to four faults, drawn at random. The smallest of their numbers is
- * due: it is worked out here from the faults alone, so the second program is held to the order as well as the library.
+ * A good call of the writer or the reader gets some faults, drawn at random. The first of their refusals in the header's
+ * list is due. It follows from the faults and the list alone, so library, second program and list are held to one another.
  */
 #include <string.h>
 
 #include "compare.h"
 #include "frames.h"
 #include "random.h"
+#include "refusals.h"
 #include "second.h"
 
 #define TRIES 60000
 #define MOST_FAULTS 4
+
+/* The faults. Those below PERMISSION are of the state's numbers, each by its place. */
+enum fault {
+    PERMISSION = WW_STATE_NUMBERS,
+    LENGTH_FROM,
+    LENGTH_TO,
+    LENGTH_ANSWER,
+    SET,
+    STEP,
+    CONTENT,
+    FAULTS
+};
 
 /* A call and the data frame that it points into. */
 struct attempt {
@@ -29,10 +42,10 @@ static uint64_t out_of_range(uint64_t is)
     return all[random_below(4)];
 }
 
-static uint32_t fault_in_number(struct attempt *attempt, size_t place, uint32_t due)
+static uint32_t fault_in_number(struct attempt *attempt, size_t place)
 {
     attempt->call.number[place] = out_of_range(attempt->call.number[place]);
-    return due;
+    return due_for_number[place];
 }
 
 /* 6: only at the rates above 28,800 bit/s. */
@@ -88,7 +101,10 @@ static uint32_t fault_in_set(struct attempt *attempt)
     return WW_BAD_SET;
 }
 
-/* 12: a Z two steps on where the mapping frame carries no I3. The last symbol carries none unless it has twelve bits. */
+/*
+ * 12: a Z two steps on where the mapping frame carries no I3. The last symbol carries none unless it has twelve bits. No
+ * data frame has this fault and 11: where an I3 is missing b is at most 12, so M is 1 and there is one set of rings.
+ */
 static uint32_t fault_in_step(struct attempt *attempt)
 {
     struct data_frame *frame = &attempt->frame;
@@ -101,42 +117,39 @@ static uint32_t fault_in_step(struct attempt *attempt)
     return WW_BAD_STEP;
 }
 
-/* Makes one fault. Gives its number, or 0 where this call cannot have it. */
-static uint32_t make_fault(struct attempt *attempt, uint64_t which)
+/* Makes one fault if the set has it. Gives its refusal, or WW_DONE where there is none or this call cannot have it. */
+static uint32_t make_fault(struct attempt *attempt, uint64_t set, size_t fault)
 {
-    static const uint32_t due[7] = {WW_BAD_ROLE,      WW_BAD_SYMBOL_RATE, WW_BAD_RATE, WW_BAD_SHAPING,
-                                    WW_UNSTATED_MARK, WW_BAD_STATE,       WW_BAD_STATE};
-    switch (which) {
-    case 7: return fault_in_permission(attempt);
-    case 8: return fault_in_length(attempt, FROM);
-    case 9: return fault_in_length(attempt, TO);
-    case 10: return fault_in_length(attempt, ANSWER);
-    case 11: return fault_in_set(attempt);
-    case 12: return fault_in_step(attempt);
-    case 13: return fault_in_content(attempt);
-    default: return fault_in_number(attempt, (size_t)which, due[which]);
+    if ((set >> fault & 1) == 0) {
+        return WW_DONE;
+    }
+    switch (fault) {
+    case PERMISSION: return fault_in_permission(attempt);
+    case LENGTH_FROM: return fault_in_length(attempt, FROM);
+    case LENGTH_TO: return fault_in_length(attempt, TO);
+    case LENGTH_ANSWER: return fault_in_length(attempt, ANSWER);
+    case SET: return fault_in_set(attempt);
+    case STEP: return fault_in_step(attempt);
+    case CONTENT: return fault_in_content(attempt);
+    default: return fault_in_number(attempt, fault);
     }
 }
 
 /*
- * Makes the faults of the set, each at most once, and gives the smallest number. A content fault is made last: one of
- * rings would else put it right again. Mark: a permission taken away and then left unstated is unstated, so that one is
- * made first.
+ * Makes the faults of the set, each once, and gives the refusal that is due. A content fault is made last: one of rings
+ * would else put it right again. Mark: a permission taken away and then left unstated is unstated, so that one is made
+ * first.
  */
 static uint32_t make_faults(struct attempt *attempt, uint64_t set)
 {
-    static const uint64_t order[14] = {7, 0, 1, 2, 3, 4, 5, 6, 8, 9, 10, 11, 12, 13};
-    uint32_t smallest = WW_DONE;
-    size_t i;
-    for (i = 0; i < 14; i++) {
-        if ((set >> order[i] & 1) != 0) {
-            uint32_t here = make_fault(attempt, order[i]);
-            if (here != WW_DONE && (smallest == WW_DONE || here < smallest)) {
-                smallest = here;
-            }
+    uint32_t due = make_fault(attempt, set, PERMISSION);
+    size_t fault;
+    for (fault = 0; fault < FAULTS; fault++) {
+        if (fault != PERMISSION) {
+            due = first_due(due, make_fault(attempt, set, fault));
         }
     }
-    return smallest;
+    return due;
 }
 
 /* A line at random. Every fourth has at most twelve bits in a mapping frame, every fifth needs its permission. */
@@ -160,7 +173,8 @@ void compare_ties(struct tally *tally)
         attempt.call = random_below(3) == 0 ? write_call(&attempt.frame) : read_call(&attempt.frame);
         while (count-- > 0) {
             /* half of the draws are among length, permission and content: those of the settings hide what comes behind them */
-            set |= (uint64_t)1 << (random_below(2) == 0 ? 7 + random_below(7) : random_below(14));
+            set |= (uint64_t)1 << (random_below(2) == 0 ? PERMISSION + random_below(FAULTS - PERMISSION)
+                                                        : random_below(FAULTS));
         }
         due = make_faults(&attempt, set);
         compare(tally, &attempt.call, due);

@@ -34,7 +34,7 @@ static uint64_t register_after(const uint8_t *line, size_t bits)
     return reg;
 }
 
-/* The three lengths of writer and reader are tested as one. */
+/* The lengths of writer and reader are tested as one. */
 static int lengths_fit(const struct parameters *by, size_t bits, size_t labels, size_t answer)
 {
     return bits == by->n && labels == 32 * by->p && answer == 32;
@@ -96,7 +96,7 @@ uint32_t second_write(uint64_t role, uint64_t s, uint64_t n, uint64_t shaping, u
     return DONE;
 }
 
-/* All mapping frames into the line. Among their refusals the smallest is given, so 10 anywhere comes before 11 anywhere. */
+/* All mapping frames into the line. Of 10, 11 and 12 the smallest is given, so 10 anywhere comes before 11 anywhere. */
 static uint32_t read_frames(const struct parameters *by, const uint8_t *labels, uint64_t *z, uint8_t *line)
 {
     uint32_t refused = DONE;

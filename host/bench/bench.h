@@ -1,7 +1,7 @@
 /*
  * bench.h: what the benchmark measures, for the files of it.
  *
- * The library and the second program have the same calls, so each is a side: four pointers. A row is one call on one
+ * The library and the second program have the same calls, so each is a side: pointers to them. A row is one call on one
  * kind of input, made BENCH_CALLS times on inputs that are drawn beforehand and are the same for both sides. Each side
  * has room of its own for what it gives, and a row fails where the two are not the same: nothing can be left out.
  */
@@ -10,6 +10,8 @@
 
 #include <stddef.h>
 #include <stdint.h>
+
+#include "workerwax.h"
 
 #define BENCH_CALLS 64
 
@@ -38,7 +40,7 @@ struct row {
     void (*draw)(const struct row *row);
     int (*run)(const struct row *row, int side); /* whether every call was done */
     int (*agree)(const struct row *row);
-    uint64_t numbers[5]; /* K and M, or role s n shaping mark */
+    uint64_t numbers[WW_SETTINGS_NUMBERS]; /* K and M, or the settings */
 };
 
 /* bench_rings.c */

@@ -6,6 +6,7 @@
 
 #include "compare.h"
 #include "random.h"
+#include "refusals.h"
 #include "second.h"
 #include "workerwax.h"
 
@@ -102,7 +103,7 @@ static void try_bad_rings(struct tally *tally, uint64_t k, uint64_t m)
     }
 }
 
-/* Lengths come before numbers and rings: each is tried with a good one and with a bad one. */
+/* Each wrong length is tried with a good number or good rings, and with bad ones. */
 static void try_lengths(struct tally *tally, uint64_t k, uint64_t m)
 {
     static const size_t lengths[] = {0, 1, 3, 4, 5, 7, 8, 9, 16, 256 + 4, 256 + 8, HUGE_LENGTH, ((size_t)1 << 32) + 8};
@@ -115,33 +116,37 @@ static void try_lengths(struct tally *tally, uint64_t k, uint64_t m)
             const struct call map = {MAP, {k, m, bad ? UINT64_MAX : 0}, {to}};
             const struct call first = {RANK, {k, m}, {from, room(WW_RANK_BYTES)}};
             const struct call second = {RANK, {k, m}, {slice_of(rings, WW_RINGS_BYTES), to}};
+            const uint32_t rank_due = first_due(WW_BAD_LENGTH, bad ? WW_BAD_LABEL : WW_DONE);
             memset(rings, bad ? 255 : 0, sizeof rings);
             if (lengths[i] != WW_RINGS_BYTES) {
-                compare(tally, &map, WW_BAD_LENGTH);
-                compare(tally, &first, WW_BAD_LENGTH);
+                compare(tally, &map, first_due(WW_BAD_LENGTH, bad ? WW_BAD_NUMBER : WW_DONE));
+                compare(tally, &first, rank_due);
             }
             if (lengths[i] != WW_RANK_BYTES) {
-                compare(tally, &second, WW_BAD_LENGTH);
+                compare(tally, &second, rank_due);
             }
         }
     }
 }
 
-/* 13 comes before everything else. */
+/* 13 alone, and with what else can be wrong. */
 static void try_refused_pair(struct tally *tally, uint64_t k, uint64_t m)
 {
     static const uint8_t zeros[16], heavy[8] = {255, 255, 255, 255, 255, 255, 255, 255};
-    const struct call calls[] = {
-        {MAP, {k, m, 0}, {room(WW_RINGS_BYTES)}},
-        {MAP, {k, m, UINT64_MAX}, {room(WW_RINGS_BYTES)}},
-        {MAP, {k, m, 0}, {room(7)}},
-        {RANK, {k, m}, {slice_of(zeros, 8), room(WW_RANK_BYTES)}},
-        {RANK, {k, m}, {slice_of(heavy, 8), room(WW_RANK_BYTES)}},
-        {RANK, {k, m}, {slice_of(zeros, 9), room(0)}},
+    const struct {
+        uint32_t with;
+        struct call call;
+    } tries[] = {
+        {WW_DONE, {MAP, {k, m, 0}, {room(WW_RINGS_BYTES)}}},
+        {WW_BAD_NUMBER, {MAP, {k, m, UINT64_MAX}, {room(WW_RINGS_BYTES)}}},
+        {WW_BAD_LENGTH, {MAP, {k, m, 0}, {room(7)}}},
+        {WW_DONE, {RANK, {k, m}, {slice_of(zeros, 8), room(WW_RANK_BYTES)}}},
+        {WW_BAD_LABEL, {RANK, {k, m}, {slice_of(heavy, 8), room(WW_RANK_BYTES)}}},
+        {WW_BAD_LENGTH, {RANK, {k, m}, {slice_of(zeros, 9), room(0)}}},
     };
     size_t i;
-    for (i = 0; i < sizeof calls / sizeof calls[0]; i++) {
-        compare(tally, &calls[i], WW_BAD_COUNTS);
+    for (i = 0; i < sizeof tries / sizeof tries[0]; i++) {
+        compare(tally, &tries[i].call, first_due(WW_BAD_COUNTS, tries[i].with));
     }
 }
 

@@ -26,7 +26,7 @@ static struct state_numbers started(struct tally *tally, const struct line *line
         state.number[WW_STATE_REGISTER] = 0;
         state.number[WW_STATE_Z] = 0;
     }
-    memcpy(call.number, state.number, sizeof call.number);
+    memcpy(call.number, state.number, sizeof state.number);
     compare(tally, &call, WW_DONE);
     return state_in(compared(0), 0);
 }

@@ -12,10 +12,29 @@
 #include <stddef.h>
 #include <stdint.h>
 
-enum entry { PARAMETERS, MAP, RANK, START, SHORT_START, WRITE, READ, ENTRIES };
+#include "workerwax.h"
+
+enum entry {
+#define CALL(NAME, name, numbers, read, written, refusals) NAME,
+#include "calls.def"
+    ENTRIES
+};
+
+/* Only their sizes are used: the most numbers and the most slices that a call takes, and one. */
+union numbers_of_calls {
+#define CALL(NAME, name, numbers, read, written, refusals) char of_##name[(numbers) + 1];
+#include "calls.def"
+};
+
+union slices_of_calls {
+#define CALL(NAME, name, numbers, read, written, refusals) char of_##name[(read) + (written) + 1];
+#include "calls.def"
+};
+
+enum { MOST_NUMBERS = sizeof(union numbers_of_calls) - 1, MOST_SLICES = sizeof(union slices_of_calls) - 1 };
 
 /* The places of the slices of writer and reader, and of the ranker. The others have one slice, at 0. */
-enum { FROM = 0, TO = 1, ANSWER = 2, RANK_ANSWER = 1, MOST_SLICES = 3, MOST_NUMBERS = 7 };
+enum { FROM = 0, TO = 1, ANSWER = 2, RANK_ANSWER = 1 };
 
 struct slice {
     const uint8_t *content; /* null: canaries */

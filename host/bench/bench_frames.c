@@ -32,15 +32,13 @@ static struct room got[SIDES][BENCH_CALLS];
 static int write_one(data_call *write, const struct given *one, uint8_t *labels, uint8_t *answer)
 {
     const uint64_t *x = one->state;
-    return write(x[0], x[1], x[2], x[3], x[4], x[5], x[6], one->bits, bits_length, labels, labels_length, answer,
-                 WW_WRITE_BYTES) == WW_DONE;
+    return write(WW_STATE(x), one->bits, bits_length, labels, labels_length, answer, WW_WRITE_BYTES) == WW_DONE;
 }
 
 static int read_one(data_call *read, const struct given *one, uint8_t *bits, uint8_t *answer)
 {
     const uint64_t *x = one->state;
-    return read(x[0], x[1], x[2], x[3], x[4], x[5], x[6], one->labels, labels_length, bits, bits_length, answer,
-                WW_READ_BYTES) == WW_DONE;
+    return read(WW_STATE(x), one->labels, labels_length, bits, bits_length, answer, WW_READ_BYTES) == WW_DONE;
 }
 
 /* The exact lengths of the row's settings. */
@@ -48,7 +46,7 @@ static int find_lengths(const struct row *row)
 {
     uint8_t answer[WW_PARAMETERS_BYTES];
     const uint64_t *x = row->numbers;
-    if (second_parameters(x[0], x[1], x[2], x[3], x[4], answer, sizeof answer) != WW_DONE) {
+    if (second_parameters(WW_SETTINGS(x), answer, sizeof answer) != WW_DONE) {
         return 0;
     }
     bits_length = ww_number(answer, WW_PARAMETERS_N);

@@ -34,16 +34,16 @@ struct state {
     uint64_t role, s, n, shaping, mark, reg, z;
 };
 
-/* 1 to 6, or 0 and the parameters. */
+/* What the settings are refused with, or DONE and the parameters. */
 uint32_t second_work_out(const struct state *given, struct parameters *found);
 
-/* 1 to 7, or 0 and the parameters. */
+/* The same, and STATE behind it. */
 uint32_t second_refuse_state(const struct state *given, struct parameters *found);
 
 /* Writes numbers of 32 bits, low byte first. */
 void second_put(uint8_t *answer, const uint64_t *numbers, size_t count);
 
-/* Writes the seven numbers of a state. */
+/* Writes the numbers of a state. */
 void second_put_state(uint8_t *answer, const struct state *state);
 
 /* One mapping frame of `length` bits, from and to sixteen labels of two bytes each. z is the last Z, and becomes the next. */

@@ -10,37 +10,18 @@
 #include <unistd.h>
 
 #include "lent.h"
+#include "refusals.h"
 #include "second.h"
+#include "shapes.h"
 #include "workerwax.h"
 
-enum { LIBRARY, SECOND, PROGRAMS };
-
-/* What an entry takes, and which numbers may come back from it: bit i for the number i. */
-struct shape {
-    const char *name;
-    size_t numbers, slices, read_only; /* the first `read_only` slices are lent for reading alone */
-    uint32_t may_come;
-};
-
-#define SETTINGS_NUMBERS (1u << 1 | 1u << 2 | 1u << 3 | 1u << 5 | 1u << 6)
-
-static const struct shape shapes[ENTRIES] = {
-    {"parameters", 5, 1, 0, 1u | SETTINGS_NUMBERS | 1u << 4 | 1u << 8},
-    {"map", 3, 1, 0, 1u | 1u << 13 | 1u << 8 | 1u << 14},
-    {"rank", 2, 2, 1, 1u | 1u << 13 | 1u << 8 | 1u << 10 | 1u << 11},
-    {"start", 7, 1, 0, 1u | SETTINGS_NUMBERS | 1u << 4 | 1u << 7 | 1u << 8},
-    {"short_start", 4, 1, 0, 1u | SETTINGS_NUMBERS | 1u << 8},
-    {"write", 7, 3, 1, 1u | SETTINGS_NUMBERS | 1u << 4 | 1u << 7 | 1u << 8 | 1u << 9},
-    {"read", 7, 3, 1, 1u | SETTINGS_NUMBERS | 1u << 4 | 1u << 7 | 1u << 8 | 1u << 10 | 1u << 11 | 1u << 12},
-};
-
 static struct lent lent[PROGRAMS][MOST_SLICES];
-static uint64_t came_back[ENTRIES][15];
+static uint64_t came_back[ENTRIES][RESULTS];
 static uint64_t calls_made;
 
 /* What is being called, for whoever has to report it. */
 static struct call current;
-static int current_program;
+static enum program current_program;
 
 static void print_bytes(const uint8_t *bytes, size_t length)
 {
@@ -90,8 +71,8 @@ static void on_fault(int signal_number)
 
 void calls_open(void)
 {
-    int program;
-    size_t i;
+    size_t program, i;
+    shapes_check();
     for (program = 0; program < PROGRAMS; program++) {
         for (i = 0; i < MOST_SLICES; i++) {
             lent_open(&lent[program][i]);
@@ -118,41 +99,8 @@ struct slice room(size_t length)
     return slice_of(NULL, length);
 }
 
-/* A slice as it is handed over. One of no bytes may be null, and in one of the placements it is. */
-#define HANDED(i) (call->slice[i].stated == 0 && placement == AT_START ? NULL : b[i].bytes), call->slice[i].stated
-
-static uint32_t call_library(const struct call *call, const struct lent *b, enum placement placement)
-{
-    const uint64_t *x = call->number;
-    switch (call->entry) {
-    case PARAMETERS: return ww_parameters(x[0], x[1], x[2], x[3], x[4], HANDED(0));
-    case MAP: return ww_map(x[0], x[1], x[2], HANDED(0));
-    case RANK: return ww_rank(x[0], x[1], HANDED(0), HANDED(1));
-    case START: return ww_start(x[0], x[1], x[2], x[3], x[4], x[5], x[6], HANDED(0));
-    case SHORT_START: return ww_short_start(x[0], x[1], x[2], x[3], HANDED(0));
-    case WRITE: return ww_write(x[0], x[1], x[2], x[3], x[4], x[5], x[6], HANDED(0), HANDED(1), HANDED(2));
-    case READ: return ww_read(x[0], x[1], x[2], x[3], x[4], x[5], x[6], HANDED(0), HANDED(1), HANDED(2));
-    default: abort();
-    }
-}
-
-static uint32_t call_second(const struct call *call, const struct lent *b, enum placement placement)
-{
-    const uint64_t *x = call->number;
-    switch (call->entry) {
-    case PARAMETERS: return second_parameters(x[0], x[1], x[2], x[3], x[4], HANDED(0));
-    case MAP: return second_map(x[0], x[1], x[2], HANDED(0));
-    case RANK: return second_rank(x[0], x[1], HANDED(0), HANDED(1));
-    case START: return second_start(x[0], x[1], x[2], x[3], x[4], x[5], x[6], HANDED(0));
-    case SHORT_START: return second_short_start(x[0], x[1], x[2], x[3], HANDED(0));
-    case WRITE: return second_write(x[0], x[1], x[2], x[3], x[4], x[5], x[6], HANDED(0), HANDED(1), HANDED(2));
-    case READ: return second_read(x[0], x[1], x[2], x[3], x[4], x[5], x[6], HANDED(0), HANDED(1), HANDED(2));
-    default: abort();
-    }
-}
-
 /* What one program may have done to what was lent to it. */
-static void check_lent(const struct call *call, int program, uint32_t number)
+static void check_lent(const struct call *call, enum program program, uint32_t number)
 {
     const struct shape *shape = &shapes[call->entry];
     size_t i;
@@ -197,8 +145,7 @@ static uint32_t compare_placed(const struct call *call, enum placement placement
         for (i = 0; i < shape->slices; i++) {
             lent_set(&b[i], placement, call->slice[i].content, call->slice[i].there, canary);
         }
-        number[current_program] =
-            current_program == LIBRARY ? call_library(call, b, placement) : call_second(call, b, placement);
+        number[current_program] = shape_call(current_program, call, b, placement);
         check_lent(call, current_program, number[current_program]);
     }
     if (number[LIBRARY] != number[SECOND]) {
@@ -218,7 +165,7 @@ uint32_t compare(struct tally *tally, const struct call *call, uint32_t expected
     if (compare_placed(call, AT_START) != number) {
         fail("the number depends on where the buffers are");
     }
-    if (number > 14 || (shapes[call->entry].may_come >> number & 1) == 0) {
+    if (!shape_can_give(&shapes[call->entry], number)) {
         fprintf(stderr, "compare: %" PRIu32 "\n", number);
         fail("a number that this entry never gives");
     }
@@ -246,12 +193,13 @@ void demand(int fact, const char *what)
 int calls_all_met(void)
 {
     int all = 1;
-    size_t entry, number;
+    size_t entry;
+    uint32_t number;
     for (entry = 0; entry < ENTRIES; entry++) {
         printf("  %-12s", shapes[entry].name);
-        for (number = 0; number < 15; number++) {
-            if ((shapes[entry].may_come >> number & 1) != 0) {
-                printf(" %zu:%" PRIu64, number, came_back[entry][number]);
+        for (number = 0; number < RESULTS; number++) {
+            if (shape_can_give(&shapes[entry], number)) {
+                printf(" %" PRIu32 ":%" PRIu64, number, came_back[entry][number]);
                 all = all && came_back[entry][number] != 0;
             }
         }

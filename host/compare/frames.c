@@ -34,8 +34,7 @@ void random_data_frame(struct data_frame *frame, const struct line *line)
     frame->line = line;
     frame->before = random_state(line);
     random_bits(frame->bits, line->n);
-    if (second_write(x[0], x[1], x[2], x[3], x[4], x[5], x[6], frame->bits, line->n, frame->labels, 32 * line->p, answer,
-                     sizeof answer) != WW_DONE) {
+    if (second_write(WW_STATE(x), frame->bits, line->n, frame->labels, 32 * line->p, answer, sizeof answer) != WW_DONE) {
         fprintf(stderr, "frames: the second program does not write a permitted data frame\n");
         exit(1);
     }
@@ -45,7 +44,7 @@ struct call write_call(const struct data_frame *frame)
 {
     struct call call = {WRITE, {0},
                         {slice_of(frame->bits, frame->line->n), room(32 * frame->line->p), room(WW_WRITE_BYTES)}};
-    memcpy(call.number, frame->before.number, sizeof call.number);
+    memcpy(call.number, frame->before.number, sizeof frame->before.number);
     return call;
 }
 
@@ -53,7 +52,7 @@ struct call read_call(const struct data_frame *frame)
 {
     struct call call = {READ, {0},
                         {slice_of(frame->labels, 32 * frame->line->p), room(frame->line->n), room(WW_READ_BYTES)}};
-    memcpy(call.number, frame->before.number, sizeof call.number);
+    memcpy(call.number, frame->before.number, sizeof frame->before.number);
     return call;
 }
 

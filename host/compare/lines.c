@@ -13,7 +13,7 @@ static int work_out(struct line *line)
 {
     uint8_t answer[WW_PARAMETERS_BYTES];
     const uint64_t *x = line->settings;
-    if (second_parameters(x[0], x[1], x[2], x[3], x[4], answer, sizeof answer) != WW_DONE) {
+    if (second_parameters(WW_SETTINGS(x), answer, sizeof answer) != WW_DONE) {
         return 0;
     }
     line->n = ww_number(answer, WW_PARAMETERS_N);

@@ -22,8 +22,8 @@ const struct side bench_sides[SIDES] = {
 };
 
 #define RINGS(k, m) \
-    {"map", "K " #k ", M " #m, rings_draw, rings_map, rings_agree, {k, m, 0, 0, 0}}, \
-    {"rank", "K " #k ", M " #m, rings_draw, rings_rank, rings_agree, {k, m, 0, 0, 0}}
+    {"map", "K " #k ", M " #m, rings_draw, rings_map, rings_agree, {k, m}}, \
+    {"rank", "K " #k ", M " #m, rings_draw, rings_rank, rings_agree, {k, m}}
 #define FRAMES(input, role, s, n, shaping) \
     {"write", input, frames_draw, frames_write, frames_agree, {role, s, n, shaping, 1}}, \
     {"read", input, frames_draw, frames_read, frames_agree, {role, s, n, shaping, 1}}

@@ -5,10 +5,12 @@
 #include <stddef.h>
 #include <stdint.h>
 
+#include "workerwax.h"
+
 #define LINES 508 /* 65 rates of six symbol rates, two roles, two shapings, two marks, less the three rates that need mark 1 */
 
 struct line {
-    uint64_t settings[5]; /* role s n shaping mark */
+    uint64_t settings[WW_SETTINGS_NUMBERS]; /* role s n shaping mark */
     uint64_t n, p, b, r, k, q, m, l;
 };
 

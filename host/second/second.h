@@ -6,8 +6,7 @@
  * switching by a quotient, the scrambler over the history of its outputs. It also is the plain C that the library is
  * measured against, so it holds its counts in tables.
  *
- * second_init must be called once, before any other. The seven calls then have the signatures and meanings of the ww_
- * ones.
+ * second_init must be called once, before any other. The calls then have the signatures and meanings of the ww_ ones.
  */
 #ifndef SECOND_H
 #define SECOND_H
@@ -33,7 +32,7 @@ uint32_t second_read(uint64_t role, uint64_t s, uint64_t n, uint64_t shaping, ui
                      uint8_t *answer, size_t answer_length);
 
 /*
- * Below the seven calls, for tests that need what no call gives. They test nothing: m is 1 to 18, a number is below
+ * Below the calls, for tests that need what no call gives. They test nothing: m is 1 to 18, a number is below
  * m^8, a ring is below m, the settings are permitted ones.
  */
 #define SECOND_MAX_RINGS 18

@@ -3,7 +3,8 @@
 
 #include "compare.h"
 #include "frames.h"
-#include "random.h"
+#include "refusals.h"
+#include "shapes.h"
 
 /* Bytes for slices that are longer than any right one. */
 static uint8_t plenty[4 * WW_MAX_BITS];
@@ -31,7 +32,7 @@ static void try_lengths(struct tally *tally, const struct call *good, const stru
 {
     int with_bad_content;
     size_t which, i;
-    for (which = 0; which < 3; which++) {
+    for (which = 0; which < shapes[good->entry].slices; which++) {
         const size_t right = good->slice[which].stated;
         const size_t lengths[] = {0, 1, right - 1, right + 1, right - 2, right + 2, right / 2, 2 * right, 256 + right,
                                   line->n, 16 * line->p, 32 * line->p, WW_READ_BYTES, WW_START_BYTES,
@@ -58,17 +59,15 @@ static void try_two_lengths(struct tally *tally, const struct call *good)
 
 static void try_wide(struct tally *tally, const struct call *good)
 {
-    static const uint32_t due[7] = {WW_BAD_ROLE,      WW_BAD_SYMBOL_RATE, WW_BAD_RATE, WW_BAD_SHAPING,
-                                    WW_UNSTATED_MARK, WW_BAD_STATE,       WW_BAD_STATE};
     size_t place, i;
-    for (place = 0; place < 7; place++) {
+    for (place = 0; place < WW_STATE_NUMBERS; place++) {
         const uint64_t is = good->number[place];
         const uint64_t wide[] = {((uint64_t)1 << 32) + is, ((uint64_t)1 << 63) + is, UINT64_MAX, ((uint64_t)1 << 31) + is,
                                  256 + is, 65536 + is};
         for (i = 0; i < sizeof wide / sizeof wide[0]; i++) {
             struct call call = *good;
             call.number[place] = wide[i];
-            compare(tally, &call, place == WW_STATE_REGISTER && i >= 4 ? NOT_KNOWN : due[place]);
+            compare(tally, &call, place == WW_STATE_REGISTER && i >= 4 ? NOT_KNOWN : due_for_number[place]);
         }
     }
 }
