@@ -1,10 +1,7 @@
-// Workerwax, program `cases`: what the mapper, the ranker, the settings and the scrambler answer, in the worked cases, on each side of each
-// limit, and in sweeps over all numbers of an M and over settings. Its expected output is written by hand, so that the proved code is held
-// to what the paper says and not to itself.
+// Workerwax, program `cases`: what the mapper and the ranker answer, in the worked cases, on each side of each limit, and in sweeps over all
+// numbers of an M. Its expected output is written by hand, so that the proved code is held to what the paper says and not to itself.
 mod limits;
 mod order;
-mod scrambling;
-mod settings;
 mod show;
 mod sweep;
 mod tally;
@@ -21,6 +18,4 @@ fn main() {
     limits::rank_limit();
     limits::ties();
     tally::sweeps();
-    settings::cases();
-    scrambling::responses();
 }

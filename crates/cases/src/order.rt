@@ -10,20 +10,15 @@ fn wide(x: u8) -> u64
 
 // The keys in their order: the total; m1+m2+m3+m4; m5+m6; m7; m5; m1+m2; m3; m1.
 fn keys(m: &[u8; 8]) -> [u64; 8] {
-    let first = wide(m[0]) + wide(m[1]);
-    let front = first + wide(m[2]) + wide(m[3]);
-    let third = wide(m[4]) + wide(m[5]);
-    let back = third + wide(m[6]) + wide(m[7]);
-    [
-        front + back,
-        front,
-        third,
-        wide(m[6]),
-        wide(m[4]),
-        first,
-        wide(m[2]),
-        wide(m[0]),
-    ]
+    let m1 = wide(m[0]);
+    let m3 = wide(m[2]);
+    let m5 = wide(m[4]);
+    let m7 = wide(m[6]);
+    let first = m1 + wide(m[1]);
+    let front = first + m3 + wide(m[3]);
+    let third = m5 + wide(m[5]);
+    let back = third + m7 + wide(m[7]);
+    [front + back, front, third, m7, m5, first, m3, m1]
 }
 
 // Whether x stands before y: the first key that differs is smaller.

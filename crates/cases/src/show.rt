@@ -17,11 +17,16 @@ pub fn say(words: &[u8], n: u64) {
     number(n);
 }
 
+// A number behind a space.
+pub fn spaced(n: u64) {
+    say(b" ", n);
+}
+
 // Each byte in decimal, with a space before it.
 pub fn bytes(list: &[u8]) {
     let mut i = 0;
     while i < list.len() {
-        say(b" ", list[i] as u64);
+        spaced(list[i] as u64);
         i += 1;
     }
 }
@@ -61,7 +66,7 @@ pub fn map(k: u64, m: u64, s: u64) {
 }
 
 // What the ranker answers: the refusal number, and the number of the rings.
-pub fn rank(k: u64, m: u64, set: &[u8]) {
+pub fn rank_list(k: u64, m: u64, set: &[u8]) {
     let ranked = rings::rank(k, m, set);
     say(b"rank K ", k);
     say(b" M ", m);
@@ -70,4 +75,9 @@ pub fn rank(k: u64, m: u64, set: &[u8]) {
     say(b": ", ranked.refusal);
     say(b", ", ranked.number);
     text(b"\n");
+}
+
+// To eight rings, by value: a list that is lent costs the check of its function three times as much as a number does.
+pub fn rank(k: u64, m: u64, m1: u8, m2: u8, m3: u8, m4: u8, m5: u8, m6: u8, m7: u8, m8: u8) {
+    rank_list(k, m, &[m1, m2, m3, m4, m5, m6, m7, m8]);
 }

@@ -1,45 +1,36 @@
 -- When the writer and the reader answer 0: exactly when the settings are accepted, register and Z are fit, the lengths are exact, and the
 -- bytes are bits, or no test refuses the labels. Then N is the number of bits. Assumes nothing.
 use mathlib.Core.Bool.{Bool, true, false, not, cond, _||_}
-use mathlib.Core.List.{List, [], _∷_}
+use mathlib.Core.List.{List}
 use mathlib.Core.Logic.{_↔_}
 use mathlib.Core.Path.{_≡_, refl, sym, ap, _∙_}
 use Prim.Native.Nat.{ℕ, _*_, _^_, _≤_, _<_}
 use native.Mathlib.Omega.{arith}
-use lib.Dec.{leb, eqb}
+use lib.Dec.{eqb}
 use lib.ListN.{length}
-use borrow.Author.Tests.{leb-true, leb-false, le-leb, lt-leb, ltb-false, le-ltb, eqb-true, eq-eqb}
-use Rattle.laws.specs.Digits.{Bits}
+use borrow.Author.Tests.{leb-false, lt-leb, ltb-false, le-ltb, eqb-true, eq-eqb}
+use Rattle.bits.specs.Digits.{Bits}
 use Rattle.laws.proofs.Bools.{and-parts, and-both, not-not}
 use Rattle.laws.proofs.Choices.{no-tests, passed-over, none-first, none-rest}
 use Rattle.line.specs.declared.settings.Settings.{Settings}
 use Rattle.line.specs.declared.settings.Worked.{Worked}
 use Rattle.line.specs.declared.settings.Worked.the-variants.{Accepted, Refused}
-use Rattle.line.specs.Settings.{numberOf}
-use Rattle.line.proofs.Acceptance.{accepted-when, unrefused-right, number-is}
+use Rattle.line.proofs.Acceptance.{refused-some}
 use Rattle.line.proofs.Soundness.{Sound, accepted-sound}
 use Rattle.coder.specs.declared.states.State.{State}
 use Rattle.coder.specs.declared.states.Coded.{Coded}
 use Rattle.coder.specs.State.{workedIn, unfit}
 use Rattle.coder.specs.Receiving.{receivingOf, allInRange, numbersFit, allStepsFit}
-use Rattle.coder.specs.Answers.{allBits, exact, writeRefusal, readRefusal, written, received, writtenOf, readOf, Sendable, Receivable}
+use Rattle.bits.specs.Digits.{allBits}
+use Rattle.bits.proofs.Tested.{all-bits, bits-all}
+use Rattle.coder.specs.Answers.{exact, writeRefusal, readRefusal, refusedWith, written, received}
+use Rattle.coder.specs.Answers.{writtenOf, readOf, Sendable, Receivable}
 
 -- The tests, and what they say.
 
 or-parts : (a b : Bool) → (a || b) ≡ false → (a ≡ false) × (b ≡ false)
 or-parts true b e = absurd (let z : _≡_ {A = ℕ} 0 1 = cc in omega arith)
 or-parts false b e = (refl, e)
-
--- every byte is a bit
-pub all-bits : (bytes : List ℕ) → allBits bytes ≡ true → Bits bytes
-unfolding allBits
-all-bits [] e = tt
-all-bits (byte ∷ bytes) e = let both = and-parts (leb byte 1) (allBits bytes) e in (leb-true byte 1 (both .0), all-bits bytes (both .1))
-
-pub bits-all : (bytes : List ℕ) → Bits bytes → allBits bytes ≡ true
-unfolding allBits
-bits-all [] h = refl
-bits-all (byte ∷ bytes) h = and-both (leb byte 1) (allBits bytes) (le-leb byte 1 (h .0)) (bits-all bytes (h .1))
 
 -- register and Z are fit
 pub fit-passes : (st : State) → st .register < 2 ^ 23 → st .z ≤ 3 → unfit st ≡ false
@@ -49,33 +40,21 @@ pub passes-fit : (st : State) → unfit st ≡ false → (st .register < 2 ^ 23)
 passes-fit st e = let both = or-parts _ _ e in (leb-false (2 ^ 23) (st .register) (both .0), ltb-false 3 (st .z) (both .1))
 
 -- the lengths are exact
-pub exact-passes : (c : Settings) (bits labels : ℕ) → bits ≡ c .bits → labels ≡ 16 * c .frames → not (exact c bits labels) ≡ false
-exact-passes c bits labels p q = ap not (and-both _ _ (eq-eqb bits (c .bits) p) (eq-eqb labels (16 * c .frames) q))
+pub exact-passes : (c : Settings) (bits labels : ℕ) → bits ≡ c .user → labels ≡ 16 * c .frames → not (exact c bits labels) ≡ false
+exact-passes c bits labels p q = ap not (and-both _ _ (eq-eqb bits (c .user) p) (eq-eqb labels (16 * c .frames) q))
 
-pub passes-exact : (c : Settings) (bits labels : ℕ) → not (exact c bits labels) ≡ false → (bits ≡ c .bits) × (labels ≡ 16 * c .frames)
+pub passes-exact : (c : Settings) (bits labels : ℕ) → not (exact c bits labels) ≡ false → (bits ≡ c .user) × (labels ≡ 16 * c .frames)
 passes-exact c bits labels e =
-    let both = and-parts (eqb bits (c .bits)) (eqb labels (16 * c .frames)) (not-not (exact c bits labels) e) in
-    (eqb-true bits (c .bits) (both .0), eqb-true labels (16 * c .frames) (both .1))
+    let both = and-parts (eqb bits (c .user)) (eqb labels (16 * c .frames)) (not-not (exact c bits labels) e) in
+    (eqb-true bits (c .user) (both .0), eqb-true labels (16 * c .frames) (both .1))
 
--- The settings of a state.
-
--- they are never refused with 0
-pub never-zero : (st : State) → workedIn st ≡ Refused 0 → ⊥
-never-zero st e =
-    let n = number-is (st .role) (st .s) (st .n) (st .shaping) (st .mark) in
-    let right = unrefused-right (st .role) (st .s) (st .n) (st .shaping) (st .mark) (sym n ∙ ap numberOf e) in
-    let accepted = accepted-when (st .role) (st .s) (st .n) (st .shaping) (st .mark) .1 right in
-    let f = accepted .1 in
-    let z : _≡_ {A = ℕ} 0 1 = cc in
-    omega arith
-
--- and sound where they are accepted
+-- the settings of a state are sound where they are accepted
 pub settings-sound : (st : State) (c : Settings) → workedIn st ≡ Accepted c → Sound c
-settings-sound st c = accepted-sound (st .role) (st .s) (st .n) (st .shaping) (st .mark) c
+settings-sound st c = accepted-sound (st .asked) c
 
 -- the answer where the refusal is `number`, and `done` where there is none
-abbrev answerAt : ℕ → Coded → State → Coded
-answerAt number done st = cond (eqb number 0) done (record { refusal = number; bits = 0; state = st })
+abbrev pub answerAt : ℕ → Coded → State → Coded
+answerAt number done st = cond (eqb number 0) done (refusedWith number st)
 
 -- a refused answer holds the state as it was given
 kept-state :
@@ -84,15 +63,15 @@ kept-state :
 kept-state number done st zero some = go (eqb number 0) refl some
   where
     go :
-        (v : Bool) → eqb number 0 ≡ v → (cond v done (record { refusal = number; bits = 0; state = st }) .refusal ≡ 0 → ⊥)
-        → cond v done (record { refusal = number; bits = 0; state = st }) .state ≡ st
+        (v : Bool) → eqb number 0 ≡ v → (cond v done (refusedWith number st) .refusal ≡ 0 → ⊥)
+        → cond v done (refusedWith number st) .state ≡ st
     go true f g = absurd (g (zero (eqb-true number 0 f)))
     go false f g = refl
 
 zero-given : (number : ℕ) (done : Coded) (st : State) → answerAt number done st .refusal ≡ 0 → number ≡ 0
 zero-given number done st e = go (eqb number 0) refl e
   where
-    go : (v : Bool) → eqb number 0 ≡ v → cond v done (record { refusal = number; bits = 0; state = st }) .refusal ≡ 0 → number ≡ 0
+    go : (v : Bool) → eqb number 0 ≡ v → cond v done (refusedWith number st) .refusal ≡ 0 → number ≡ 0
     go true f g = eqb-true number 0 f
     go false f g = g
 
@@ -147,7 +126,7 @@ module _ (st : State) (bits out : List ℕ) where
       go :
           (w : Worked) → workedIn st ≡ w → answerAt (writeRefusal w st bits (length out)) (written w st bits) st .refusal ≡ 0
           → (c : Settings) × Sendable st c bits out
-      go (Refused n) f g = absurd (never-zero st (f ∙ ap Refused (zero-given n (written (Refused n) st bits) st g)))
+      go (Refused n) f g = absurd (refused-some (st .asked) n f (zero-given n (written (Refused n) st bits) st g))
       go (Accepted c) f g = (c, unrefused-sendable c f (zero-given _ (written (Accepted c) st bits) st g))
 
 -- The reader.
@@ -207,7 +186,7 @@ module _ (st : State) (labels bits : List ℕ) where
       go :
           (w : Worked) → workedIn st ≡ w → answerAt (readRefusal w st labels (length bits)) (received w st labels) st .refusal ≡ 0
           → (c : Settings) × Receivable st c labels bits
-      go (Refused n) f g = absurd (never-zero st (f ∙ ap Refused (zero-given n (received (Refused n) st labels) st g)))
+      go (Refused n) f g = absurd (refused-some (st .asked) n f (zero-given n (received (Refused n) st labels) st g))
       go (Accepted c) f g = (c, unrefused-receivable c f (zero-given _ (received (Accepted c) st labels) st g))
 
 -- Accepted exactly then.
@@ -218,7 +197,8 @@ writer-accepts st bits out = (written-sendable st bits out, λ p. ap (λ (r : Co
 pub reader-accepts :
     (st : State) (labels bits : List ℕ)
     → (readOf st labels (length bits) .refusal ≡ 0) ↔ ((c : Settings) × Receivable st c labels bits)
-reader-accepts st labels bits = (read-receivable st labels bits, λ p. ap (λ (r : Coded). r .refusal) (receives st labels bits (p .0) (p .1)))
+reader-accepts st labels bits =
+    (read-receivable st labels bits, λ p. ap (λ (r : Coded). r .refusal) (receives st labels bits (p .0) (p .1)))
 
 -- Acceptance: with settings accepted, register and Z fit, exact lengths and bytes of 0 or 1 the writer answers 0, and N is the number of
 -- bits.
@@ -230,13 +210,16 @@ pub record Taken (c : Settings) (bits : List ℕ) (r : Coded) : Type 0 where
 pub acceptance :
     (st : State) (c : Settings) (bits out : List ℕ)
     → workedIn st ≡ Accepted c → st .register < 2 ^ 23 → st .z ≤ 3
-    → length bits ≡ c .bits → length out ≡ 16 * c .frames → Bits bits
+    → length bits ≡ c .user → length out ≡ 16 * c .frames → Bits bits
     → Taken c bits (writtenOf st bits (length out))
 acceptance st c bits out worked held turn size room binary =
-    record { done = ap (λ (r : Coded). r .refusal) e; number = number; consumed = number ∙ sym size }
+    record { done = ap (λ (r : Coded). r .refusal) e; number = number; consumed = number ∙ sym (size ∙ all-user) }
   where
     e : writtenOf st bits (length out) ≡ written (Accepted c) st bits
     e = sends st bits out c (record { worked = worked; held = held; turn = turn; binary = binary; size = size; labels = room })
+
+    all-user : c .user ≡ c .bits
+    all-user = settings-sound st c worked .user-is
 
     number : writtenOf st bits (length out) .bits ≡ c .bits
     number = ap (λ (r : Coded). r .bits) e

@@ -11,10 +11,10 @@ use Rattle.line.specs.declared.settings.Worked.the-variants.{Accepted}
 use Rattle.coder.specs.declared.states.State.{State}
 use Rattle.coder.specs.declared.states.Coded.{Coded}
 use Rattle.coder.specs.State.{workedIn}
-use Rattle.coder.specs.Answers.{coded as answered, written, received, labelsOf, bitsOf, writtenOf, labelsAfter, readOf, bitsAfter}
+use Rattle.coder.specs.Answers.{coded, written, received, labelsOf, bitsOf, writtenOf, labelsAfter, readOf, bitsAfter}
 use Rattle.coder.specs.Answers.{Sendable, Receivable}
 use Rattle.coder.proofs.Sent.{Sent, sent}
-use Rattle.coder.proofs.Received.{Received, received as read-data}
+use Rattle.coder.proofs.Received.{Received, all-received}
 use Rattle.coder.proofs.Acceptance.{settings-sound, sendable-unrefused, sends, written-sendable}
 use Rattle.coder.proofs.Acceptance.{receivable-unrefused, receives, read-receivable}
 
@@ -27,8 +27,12 @@ pub record ReadBack (st : State) (bits out buffer : List ℕ) : Type 0 where
 
 -- bits that the writer can send, with settings c
 module _ (st : State) (c : Settings) (bits out : List ℕ) (w : Sendable st c bits out) where
+  -- all the bits of the data frame are the user's
+  all-user : c .user ≡ c .bits
+  all-user = settings-sound st c (w .worked) .user-is
+
   sent-data : Sent c (st .register) (st .z) bits (labelsOf (Accepted c) st bits)
-  sent-data = sent c (settings-sound st c (w .worked)) (st .register) (st .z) (w .held) (w .turn) bits (w .binary) (w .size)
+  sent-data = sent c (settings-sound st c (w .worked)) (st .register) (st .z) (w .held) (w .turn) bits (w .binary) (w .size ∙ all-user)
 
   -- the reader can receive their labels, and answers the same
   coded-receivable : (buffer : List ℕ) → length buffer ≡ length bits → Receivable st c (labelsOf (Accepted c) st bits) buffer
@@ -45,7 +49,7 @@ module _ (st : State) (c : Settings) (bits out : List ℕ) (w : Sendable st c bi
       }
 
   same-read : received (Accepted c) st (labelsOf (Accepted c) st bits) ≡ written (Accepted c) st bits
-  same-read = ap₂ (answered c st) (sent-data .registers) (sent-data .turns)
+  same-read = ap₂ (coded c st) (sent-data .registers) (sent-data .turns)
 
   coded-back : (buffer : List ℕ) → length buffer ≡ length bits → ReadBack st bits out buffer
   unfolding labelsAfter bitsAfter
@@ -89,7 +93,8 @@ pub record WrittenBack (st : State) (labels bits buffer : List ℕ) : Type 0 whe
 module _ (st : State) (c : Settings) (labels bits : List ℕ) (r : Receivable st c labels bits) where
   pub decoded : Received c (st .register) (st .z) labels (bitsOf (Accepted c) st labels)
   decoded =
-      read-data c (settings-sound st c (r .worked)) (st .register) (st .z) (r .turn) labels (r .count) (r .ranges) (r .numbers) (r .steps)
+      all-received c (settings-sound st c (r .worked)) (st .register) (st .z) (r .turn)
+      labels (r .count) (r .ranges) (r .numbers) (r .steps)
 
   -- the writer can send their bits, and answers the same
   decoded-sendable : (buffer : List ℕ) → length buffer ≡ length labels → Sendable st c (bitsOf (Accepted c) st labels) buffer
@@ -99,12 +104,12 @@ module _ (st : State) (c : Settings) (labels bits : List ℕ) (r : Receivable st
         held = r .held;
         turn = r .turn;
         binary = decoded .binary;
-        size = decoded .size;
+        size = decoded .size ∙ sym (settings-sound st c (r .worked) .user-is);
         labels = e ∙ r .count;
       }
 
   same-written : written (Accepted c) st (bitsOf (Accepted c) st labels) ≡ received (Accepted c) st labels
-  same-written = ap₂ (answered c st) (decoded .registers) (decoded .turns)
+  same-written = ap₂ (coded c st) (decoded .registers) (decoded .turns)
 
   decoded-back : (buffer : List ℕ) → length buffer ≡ length labels → WrittenBack st labels bits buffer
   unfolding labelsAfter bitsAfter
@@ -129,26 +134,27 @@ writing-back st labels bits buffer done e =
 
 -- The reader accepts exactly the labels that the writer can write from that state.
 
--- labels that the reader accepts, with some buffer, and labels that the writer writes for some bits
-abbrev pub Readable : State → List ℕ → Type 0
-Readable st labels = (buffer : List ℕ) × (readOf st labels (length buffer) .refusal ≡ 0)
+-- labels that the reader accepts from a state, with some buffer, and labels that the writer writes from it, for some bits
+abbrev pub ReadFrom : State → List ℕ → Type 0
+ReadFrom st labels = (buffer : List ℕ) × (readOf st labels (length buffer) .refusal ≡ 0)
 
-abbrev pub Writable : State → List ℕ → Type 0
-Writable st labels = (bits : List ℕ) × (out : List ℕ) × (writtenOf st bits (length out) .refusal ≡ 0) × (labelsAfter st bits out ≡ labels)
+abbrev pub WrittenFrom : State → List ℕ → Type 0
+WrittenFrom st labels =
+    (bits : List ℕ) × (out : List ℕ) × (writtenOf st bits (length out) .refusal ≡ 0) × (labelsAfter st bits out ≡ labels)
 
-pub reads-what-is-written : (st : State) (labels : List ℕ) → Readable st labels ↔ Writable st labels
+pub reads-what-is-written : (st : State) (labels : List ℕ) → ReadFrom st labels ↔ WrittenFrom st labels
 reads-what-is-written st labels = (forth, back)
   where
     -- as many zeros as there are labels
     zeros : List ℕ
     zeros = replicate (length labels) 0
 
-    forth : Readable st labels → Writable st labels
+    forth : ReadFrom st labels → WrittenFrom st labels
     forth p =
         let b = writing-back st labels (p .0) zeros (p .1) (length-replicate {A = ℕ} (length labels) 0) in
         (bitsAfter st labels (p .0), zeros, ap (λ (r : Coded). r .refusal) (b .answer) ∙ p .1, b .labels-back)
 
-    back : Writable st labels → Readable st labels
+    back : WrittenFrom st labels → ReadFrom st labels
     back p =
         let b = reading-back st (p .0) (p .1) (p .0) (p .2) refl in
         (p .0, subst (λ (l : List ℕ). readOf st l (length (p .0)) .refusal ≡ 0) (p .3) (ap (λ (r : Coded). r .refusal) (b .answer) ∙ p .2))

@@ -5,7 +5,7 @@ use mathlib.Core.List.{List, [], _∷_, map}
 use mathlib.Core.Path.{_≡_, refl, sym, ap, ap₂, subst, _∙_}
 use Prim.Native.Nat.{ℕ, _*_, _^_, _≤_, _<_}
 use lib.ListN.{length}
-use Rattle.laws.specs.Digits.{Bits}
+use Rattle.bits.specs.Digits.{Bits}
 use Rattle.laws.specs.Lists.{Every}
 use Rattle.line.specs.declared.settings.Settings.{Settings}
 use Rattle.line.specs.declared.settings.Worked.the-variants.{Accepted}
@@ -99,7 +99,7 @@ write-in-turn = all-undone reading writing writes-undo
 
 -- a call that gives the bits of a data frame, and lends the writer room for its labels
 pub record Fills (c : Settings) (call : Call) : Type 0 where
-  pub size : length (call .given) ≡ c .bits
+  pub size : length (call .given) ≡ c .user
   pub room : length (call .lent) ≡ 16 * c .frames
   pub binary : Bits (call .given)
 

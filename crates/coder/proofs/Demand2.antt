@@ -11,9 +11,9 @@ use native.Mathlib.Nat.{mul-le-mul}
 use native.Mathlib.Omega.{arith}
 use lib.ListN.{length, getD, take, replicate, length-append, length-replicate, getD-replicate}
 use lib.Seq.{take-at, getD-append-add}
-use Rattle.laws.specs.Digits.{Bits}
+use Rattle.bits.specs.Digits.{Bits}
 use Rattle.laws.specs.Emit.{emit}
-use Rattle.laws.proofs.Digitals.{bits-append}
+use Rattle.bits.proofs.Digitals.{bits-append}
 use Rattle.line.specs.declared.settings.Settings.{Settings}
 use Rattle.line.specs.declared.settings.Worked.the-variants.{Accepted}
 use Rattle.frame.specs.Shape.{lengthOf}
@@ -23,11 +23,12 @@ use Rattle.scrambler.proofs.Fronts.{take-scramble}
 use Rattle.coder.specs.declared.states.State.{State}
 use Rattle.coder.specs.declared.states.Coded.{Coded}
 use Rattle.coder.specs.State.{workedIn}
-use Rattle.coder.specs.Sending.{ringCount, highNext, shapeNext, lengthNext, nextLabels, afterLabels, sendingOf, dataLabels}
+use Rattle.frame.specs.Next.{highNext, shapeNext, lengthNext}
+use Rattle.coder.specs.Sending.{ringCount, nextLabels, afterLabels, sendingOf, dataLabels}
 use Rattle.coder.specs.Chain.{Call, Direction, writing, reading}
 use Rattle.coder.proofs.Acceptance.{Taken, settings-sound, acceptance}
 use Rattle.coder.proofs.Back.{sends-labels}
-use Rattle.coder.proofs.Sends.{sixteen-labels}
+use Rattle.coder.proofs.Sent.{frame-sixteen}
 use Rattle.coder.proofs.Starting.{Fit}
 use Rattle.coder.proofs.Chains.{Undone, Undoes, Fills, fills-sendable, again, reads-undo, writes-undo}
 
@@ -76,17 +77,17 @@ module _ (st : State) (c : Settings) (fit : Fit st) (worked : workedIn st ≡ Ac
   first = lengthNext c 0
 
   behind : ℕ
-  behind = c .bits - first
+  behind = c .user - first
 
-  some-behind : first < c .bits
+  some-behind : first < c .user
   unfolding first
   some-behind =
       let sound = settings-sound st c worked in
       let high = sound .high-least in
       let least : (c .high - 1) * 12 ≤ (c .high - 1) * c .frames = mul-le-mul (omega arith) (sound .frames-least) in
-      go (highNext c 0) (omega (arith, sound .fewer))
+      go (highNext c 0) (omega (arith, sound .fewer, sound .user-is))
     where
-      go : (v : Bool) → c .high < c .bits → lengthOf (c .high) v < c .bits
+      go : (v : Bool) → c .high < c .user → lengthOf (c .high) v < c .user
       go true h = h
       go false h = omega arith
 
@@ -100,11 +101,11 @@ module _ (st : State) (c : Settings) (fit : Fit st) (worked : workedIn st ≡ Ac
   ending : ℕ → List ℕ
   ending bit = front ++ replicate behind bit
 
-  ending-length : (bit : ℕ) → length (ending bit) ≡ c .bits
+  ending-length : (bit : ℕ) → length (ending bit) ≡ c .user
   unfolding ending behind
   ending-length bit =
-      length-append front (replicate (c .bits - first) bit)
-      ∙ omega (arith, front-length, length-replicate {A = ℕ} (c .bits - first) bit, some-behind)
+      length-append front (replicate (c .user - first) bit)
+      ∙ omega (arith, front-length, length-replicate {A = ℕ} (c .user - first) bit, some-behind)
 
   ending-front : (bit : ℕ) → take first (ending bit) ≡ front
   unfolding ending
@@ -113,8 +114,8 @@ module _ (st : State) (c : Settings) (fit : Fit st) (worked : workedIn st ≡ Ac
   ending-last : (bit : ℕ) → getD (ending bit) (length front + 0) 0 ≡ bit
   unfolding ending behind
   ending-last bit =
-      getD-append-add front (replicate (c .bits - first) bit) 0 0
-      ∙ getD-replicate {A = ℕ} (c .bits - first) 0 bit 0 (omega (arith, some-behind))
+      getD-append-add front (replicate (c .user - first) bit) 0 0
+      ∙ getD-replicate {A = ℕ} (c .user - first) 0 bit 0 (omega (arith, some-behind))
 
   -- they are not the same
   endings-differ : ending 0 ≡ ending 1 → ⊥
@@ -141,11 +142,11 @@ module _ (st : State) (c : Settings) (fit : Fit st) (worked : workedIn st ≡ Ac
 
     -- a buffer for the bits that are read
     space : List ℕ
-    space = replicate (c .bits) 0
+    space = replicate (c .user) 0
 
     back : (bit : ℕ) → bit ≤ 1 → Undone writer reader st (frame bit) space
     unfolding frame space
-    back bit h = demand .reads st (frame bit) space (accepted bit h) (length-replicate {A = ℕ} (c .bits) 0 ∙ sym (ending-length bit))
+    back bit h = demand .reads st (frame bit) space (accepted bit h) (length-replicate {A = ℕ} (c .user) 0 ∙ sym (ending-length bit))
 
     -- no such writer, and no such reader, refuses everything
     pub writer-takes-some : ((call : Call) → writer .answer st call .refusal ≡ 0 → ⊥) → ⊥
@@ -185,7 +186,7 @@ module _ (st : State) (c : Settings) (fit : Fit st) (worked : workedIn st ≡ Ac
       let parts : ℕ → List ℕ = λ n. emit (nextLabels c) (afterLabels c) n start in
       let rest = emit (nextLabels c) (afterLabels c) (c .frames - 1) (afterLabels c start) in
       ap (take 16) (sends-labels st (ending bit) (replicate (16 * c .frames) 0) c w ∙ ap parts frames)
-      ∙ (take-at (nextLabels c start) rest 16 (sixteen-labels _ _ _ _) ∙ rw (take-scramble, ending-front bit))
+      ∙ (take-at (nextLabels c start) rest 16 (frame-sixteen _ _ _ _) ∙ rw (take-scramble, ending-front bit))
 
   -- and so no reader of what our writer writes goes by the first sixteen labels alone
   pub reader-looks-further : (reader : Direction) → Demand2 writing reader → OnlyFront reader st 16 → ⊥

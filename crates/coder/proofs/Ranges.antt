@@ -1,19 +1,20 @@
 -- The ranges of a data frame's labels are those of its frames: the labels of 4·P symbols are in their ranges where the sixteen labels of
--- the first frame and those of the others are, and every frame has the q of its settings. Assumes nothing.
-use mathlib.Core.Bool.{Bool, true, false, cond, _&&_}
+-- the first frame and those of the others are, every frame has the q of its settings, and no Z is above 3. Assumes nothing.
+use mathlib.Core.Bool.{Bool, true, false, _&&_}
 use mathlib.Core.List.{List, [], _∷_}
-use mathlib.Core.Path.{_≡_, refl, sym, ap, _∙_}
-use Prim.Native.Nat.{ℕ, zero, suc, _+_, _*_, _-_, _^_, _≤_}
+use mathlib.Core.Path.{_≡_, refl, ap, _∙_}
+use Prim.Native.Nat.{ℕ, zero, suc, _+_, _*_, _^_, _≤_, _<_}
 use native.Mathlib.Nat.{zero-add, suc-add}
 use native.Mathlib.Omega.{arith}
 use lib.Dec.{leb, ltb}
-use lib.ListN.{length, take, drop}
-use borrow.Author.Tests.{leb-true}
+use lib.ListN.{length, getD, take, drop}
 use Rattle.line.specs.declared.settings.Settings.{Settings}
 use Rattle.line.proofs.Soundness.{Sound}
-use Rattle.frame.specs.declared.shape.Shape.{Shape}
-use Rattle.frame.specs.Shape.{lengthOf, shapeOf}
-use Rattle.frame.specs.Reading.{inRange}
+use Rattle.frame.specs.Next.{shapeNext}
+use Rattle.frame.specs.Reading.{inRange, frameReadTurned}
+use Rattle.frame.proofs.Lengths.{next-fits}
+use Rattle.frame.proofs.Sixteen.{four-in-range}
+use Rattle.coder.specs.Sending.{ringCount}
 
 and-assoc : (a b c : Bool) → (a && (b && c)) ≡ ((a && b) && c)
 and-assoc true b c = refl
@@ -46,17 +47,17 @@ frame-ranges M q k labels e =
     let four : 4 * suc k ≡ 4 + 4 * k = omega arith in
     rw four (range-split M q 4 (4 * k) labels (omega arith))
 
--- a frame has the q of its settings, which is 0 where b is at most 12
-pub uncoded-is : (c : Settings) → Sound c → (high : Bool) → shapeOf c high .uncoded ≡ c .uncoded
-unfolding shapeOf
-uncoded-is c sound high = go (leb (c .high) 12) refl
-  where
-    plain : Shape
-    plain = record { shell = 0; threes = lengthOf (c .high) high - 8; uncoded = 0 }
+-- a frame has the q of its settings, so that the test of its labels is that for the q of its shape
+pub shape-range :
+    (c : Settings) → Sound c → (counter : ℕ) (labels : List ℕ)
+    → inRange (ringCount c) (shapeNext c counter .uncoded) 4 labels ≡ inRange (ringCount c) (c .uncoded) 4 labels
+shape-range c sound counter labels = rw (next-fits c sound counter .uncoded)
 
-    shaped : Shape
-    shaped = record { shell = cond high (c .shell) (c .shell - 1); threes = 4; uncoded = c .uncoded }
+-- Z of labels in their ranges is at most 3
+pub turns-small : (M q : ℕ) (labels : List ℕ) → inRange M q 4 labels ≡ true → (j : ℕ) → j < 4 → getD labels (4 * j + 2) 0 ≤ 3
+turns-small M q labels e j h = four-in-range M q labels e j h .turn
 
-    go : (v : Bool) → leb (c .high) 12 ≡ v → cond v plain shaped .uncoded ≡ c .uncoded
-    go true e = sym (sound .plain (leb-true (c .high) 12 e) .1)
-    go false e = refl
+-- and so is the last of a frame
+pub turned-small : (M q : ℕ) (labels : List ℕ) → inRange M q 4 labels ≡ true → frameReadTurned labels ≤ 3
+unfolding frameReadTurned
+turned-small M q labels e = turns-small M q labels e 3 (omega arith)

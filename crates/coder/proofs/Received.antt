@@ -3,29 +3,31 @@
 -- are left. Assumes nothing.
 use mathlib.Core.Bool.{true}
 use mathlib.Core.List.{List, _++_}
-use mathlib.Core.Path.{_≡_, refl, sym, ap, ap₂, subst, _∙_}
+use mathlib.Core.Path.{_≡_, refl, sym, ap, ap₂, _∙_}
 use Prim.Native.Nat.{ℕ, zero, suc, _+_, _*_, _≤_}
 use native.Mathlib.Omega.{arith}
 use lib.ListN.{length, take, drop, length-append, length-drop, take-append-drop}
 use lib.Seq.{length-take-le, take-at, drop-at}
-use Rattle.laws.specs.Digits.{Bits}
+use Rattle.bits.specs.Digits.{Bits}
 use Rattle.laws.specs.Emit.{emit, iter}
 use Rattle.laws.proofs.Bools.{and-parts}
-use Rattle.laws.proofs.Digitals.{bits-append}
+use Rattle.bits.proofs.Digitals.{bits-append}
 use Rattle.line.specs.declared.settings.Settings.{Settings}
 use Rattle.line.specs.Switching.{counterAfter, frameBits, frameLengths, total}
 use Rattle.line.proofs.Soundness.{Sound}
 use Rattle.frame.specs.Reading.{inRange, numberFits, stepsFit, frameReadTurned}
 use Rattle.frame.specs.Writing.{frameTurned}
+use Rattle.frame.proofs.InTurn.{nothing}
 use Rattle.frame.proofs.Lengths.{ShapeFits, next-fits}
-use Rattle.frame.proofs.Written.{written}
 use Rattle.frame.proofs.Accepted.{Accepted, accepted}
 use Rattle.scrambler.specs.Scrambler.{scramble, descramble, pushAll}
 use Rattle.scrambler.proofs.Inverse.{length-descramble, bits-descramble, scramble-descramble}
-use Rattle.coder.specs.Sending.{Sending, ringCount, highNext, shapeNext, lengthNext, nextLabels, afterLabels, sendingOf, dataLabels, dataRegister, dataTurned}
-use Rattle.coder.specs.Receiving.{Receiving, nextBits, afterBits, receivingOf, dataReceived, dataBits, dataReadRegister, dataReadTurned, allInRange, numbersFit, allStepsFit}
-use Rattle.coder.proofs.Ranges.{frame-ranges, uncoded-is}
-use Rattle.coder.proofs.Sent.{lengthLeft, nothing}
+use Rattle.frame.specs.Next.{highNext, shapeNext, lengthNext}
+use Rattle.coder.specs.Sending.{Sending, ringCount, nextLabels, afterLabels, sendingOf, dataLabels, dataRegister, dataTurned}
+use Rattle.coder.specs.Receiving.{Receiving, nextBits, afterBits, receivingOf, allInRange, numbersFit, allStepsFit}
+use Rattle.coder.specs.Receiving.{dataReceived, dataBits, dataReadRegister, dataReadTurned}
+use Rattle.coder.proofs.Ranges.{frame-ranges, shape-range, turned-small}
+use Rattle.coder.proofs.Sent.{lengthLeft}
 
 -- bits as they are sent, with the counter and the Z of what is read
 abbrev sendAgain : Receiving → List ℕ → Sending
@@ -48,16 +50,22 @@ record FramesRead (c : Settings) (k : ℕ) (t : Receiving) (bits : List ℕ) : T
 
 -- Sound settings.
 module _ (c : Settings) (sound : Sound c) where
-  -- the next frame, and what is left then
-  pub record Next (k : ℕ) (t : Receiving) : Type 0 where
+  -- the next frame: no test refuses its labels, it has the bits that the switching says, and of those after it the same is true
+  pub record ToldNext (k : ℕ) (t : Receiving) : Type 0 where
+    pub ranges : inRange (ringCount c) (c .uncoded) 4 (take 16 (t .labels)) ≡ true
+    pub number : numberFits (ringCount c) (shapeNext c (t .counter)) (take 16 (t .labels)) ≡ true
+    pub steps : stepsFit (shapeNext c (t .counter) .threes) (t .z) 4 (take 16 (t .labels)) ≡ true
     pub frame : Accepted (ringCount c) (shapeNext c (t .counter)) (t .z) (take 16 (t .labels)) (nextBits c t)
     pub length-is : length (nextBits c t) ≡ lengthNext c (t .counter)
     pub left : Told c k (afterBits c t)
 
-  pub told-next : (k : ℕ) (t : Receiving) → Told c (suc k) t → Next k t
+  pub told-next : (k : ℕ) (t : Receiving) → Told c (suc k) t → ToldNext k t
   unfolding nextBits afterBits numbersFit allStepsFit
   told-next k t l =
       record {
+        ranges = r .0;
+        number = n .0;
+        steps = s .0;
         frame = a;
         length-is = a .size ∙ fits .size;
         left =
@@ -66,7 +74,7 @@ module _ (c : Settings) (sound : Sound c) where
               ranges = r .1;
               numbers = n .1;
               steps = s .1;
-              turn = turn;
+              turn = turned-small (ringCount c) (c .uncoded) (take 16 (t .labels)) (r .0);
             };
       }
     where
@@ -87,21 +95,14 @@ module _ (c : Settings) (sound : Sound c) where
 
       a : Accepted (ringCount c) (shapeNext c (t .counter)) (t .z) (take 16 (t .labels)) (nextBits c t)
       a =
-          accepted (ringCount c) (shapeNext c (t .counter)) (t .z) (take 16 (t .labels)) (fits .threes) (l .turn)
+          accepted (ringCount c) (shapeNext c (t .counter)) (t .z) (take 16 (t .labels)) (fits .limits .threes) (l .turn)
           (length-take-le 16 (t .labels) (omega (arith, l .size)))
-          (ap (λ (q : ℕ). inRange (ringCount c) q 4 (take 16 (t .labels))) (uncoded-is c sound (highNext c (t .counter))) ∙ r .0)
+          (shape-range c sound (t .counter) (take 16 (t .labels)) ∙ r .0)
           (n .0) (s .0)
-
-      -- Z stays fit, as the bits that were read would turn it to the same
-      turn : frameReadTurned (take 16 (t .labels)) ≤ 3
-      turn =
-          subst (λ (v : ℕ). v ≤ 3) (a .turn)
-          (written (ringCount c) (shapeNext c (t .counter)) (t .z) (nextBits c t)
-          (fits .threes) (l .turn) (fits .room) (a .binary) (a .size) .turn-most)
 
   -- one frame before those whose bits are `bits`
   read-next :
-      (k : ℕ) (t : Receiving) (bits : List ℕ) → Next k t → FramesRead c k (afterBits c t) bits
+      (k : ℕ) (t : Receiving) (bits : List ℕ) → ToldNext k t → FramesRead c k (afterBits c t) bits
       → FramesRead c (suc k) t (nextBits c t ++ bits)
   unfolding emit iter nextLabels afterLabels afterBits frameLengths frameBits total
   read-next k t bits next rest =
@@ -140,6 +141,11 @@ module _ (c : Settings) (sound : Sound c) where
   frames-read zero t l = record { binary = tt; size = refl; back = nothing (t .labels) (l .size); turn = refl }
   frames-read (suc k) t l = let next = told-next k t l in read-next k t _ next (frames-read k (afterBits c t) (next .left))
 
+  -- k frames have the bits that the switching says
+  pub told-length :
+      (k : ℕ) (t : Receiving) → Told c k t → length (emit (nextBits c) (afterBits c) k t) ≡ lengthLeft c (t .counter) k
+  told-length k t l = frames-read k t l .size
+
 -- what holds of the bits of a data frame's labels
 pub record Received (c : Settings) (register z : ℕ) (labels bits : List ℕ) : Type 0 where
   pub binary : Bits bits
@@ -158,9 +164,9 @@ module _
     (ranges : allInRange c labels ≡ true) (numbers : numbersFit c (c .frames) (receivingOf z labels) ≡ true)
     (steps : allStepsFit c (c .frames) (receivingOf z labels) ≡ true)
   where
-    pub received : Received c register z labels (dataBits c register z labels)
+    pub all-received : Received c register z labels (dataBits c register z labels)
     unfolding dataLabels dataRegister dataTurned dataReceived dataBits dataReadRegister dataReadTurned
-    received =
+    all-received =
         record {
           binary = bits-descramble (c .role) register outs;
           size = length-descramble (c .role) register outs ∙ outs-size;

@@ -2,37 +2,58 @@
 -- register and the same Z. For all sound settings, registers below 2^23 and Z up to 3, by induction over the frames that are left.
 -- Assumes nothing.
 use mathlib.Core.Bool.{true, _&&_}
-use mathlib.Core.List.{List, [], _∷_, _++_}
+use mathlib.Core.List.{List, _++_}
 use mathlib.Core.Path.{_≡_, refl, sym, ap, ap₂, _∙_}
-use Prim.Native.Nat.{ℕ, zero, suc, _*_, _^_, _≤_, _<_}
+use Prim.Native.Nat.{ℕ, zero, suc, _+_, _*_, _^_, _≤_, _<_}
 use native.Mathlib.Omega.{arith}
 use lib.ListN.{length, take, drop, length-append, length-drop, take-append-drop}
 use lib.Seq.{length-take-le, take-at, drop-at}
-use Rattle.laws.specs.Digits.{Bits}
+use Rattle.bits.specs.Digits.{Bits}
 use Rattle.laws.specs.Emit.{emit, iter}
-use Rattle.laws.proofs.Digitals.{bits-take, bits-drop}
+use Rattle.bits.proofs.Digitals.{bits-take, bits-drop}
 use Rattle.line.specs.declared.settings.Settings.{Settings}
 use Rattle.line.specs.Switching.{counterAfter, frameBits, frameLengths, total}
 use Rattle.line.proofs.Soundness.{Sound}
+use Rattle.frame.specs.declared.shape.Shape.{Shape}
+use Rattle.frame.specs.Writing.{labelsWritten, frameLabels}
 use Rattle.frame.specs.Reading.{inRange, numberFits, stepsFit, frameReadTurned}
+use Rattle.frame.proofs.InTurn.{nothing}
+use Rattle.frame.proofs.WriteLoop.{sixteen-labels}
 use Rattle.frame.proofs.Lengths.{next-fits}
 use Rattle.frame.proofs.Written.{Written, written}
 use Rattle.scrambler.specs.Scrambler.{scramble, descramble, pushAll}
 use Rattle.scrambler.proofs.Inverse.{length-scramble, bits-scramble, descramble-scramble, pushAll-below}
-use Rattle.coder.specs.Sending.{Sending, ringCount, highNext, shapeNext, lengthNext, nextLabels, afterLabels, sendingOf, dataLabels, dataRegister, dataTurned}
-use Rattle.coder.specs.Receiving.{Receiving, nextBits, afterBits, receivingOf, dataReceived, dataBits, dataReadRegister, dataReadTurned, allInRange, numbersFit, allStepsFit}
-use Rattle.coder.proofs.Ranges.{frame-ranges, uncoded-is}
+use Rattle.frame.specs.Next.{shapeNext, lengthNext}
+use Rattle.coder.specs.Sending.{Sending, ringCount, nextLabels, afterLabels, sendingOf, dataLabels, dataRegister, dataTurned}
+use Rattle.coder.specs.Receiving.{Receiving, nextBits, afterBits, receivingOf, allInRange, numbersFit, allStepsFit}
+use Rattle.coder.specs.Receiving.{dataReceived, dataBits, dataReadRegister, dataReadTurned}
+use Rattle.coder.proofs.Ranges.{frame-ranges, shape-range}
+
+-- a frame has sixteen labels
+pub frame-sixteen : (M : ℕ) (shape : Shape) (z : ℕ) (bits : List ℕ) → length (frameLabels M shape z bits) ≡ 16
+unfolding labelsWritten frameLabels
+frame-sixteen M shape z bits = sixteen-labels (shape .uncoded) _
 
 -- the bits of k frames, the counter before them standing at `counter`
 abbrev pub lengthLeft : Settings → ℕ → ℕ → ℕ
 lengthLeft c counter k = total (frameLengths (c .frames) (c .high) (c .step) counter k)
+
+pub length-left-next :
+    (c : Settings) (counter k : ℕ)
+    → lengthLeft c counter (suc k) ≡ lengthNext c counter + lengthLeft c (counterAfter (c .frames) (c .step) counter) k
+unfolding frameLengths total frameBits
+length-left-next c counter k = refl
+
+pub length-left-none : (c : Settings) (counter : ℕ) → lengthLeft c counter 0 ≡ 0
+unfolding frameLengths total
+length-left-none c counter = refl
 
 -- labels as they are read, with the counter and the Z of what is sent
 abbrev readAgain : Sending → List ℕ → Receiving
 readAgain t labels = record { labels = labels; counter = t .counter; z = t .z }
 
 -- what is left to send is k frames
-pub record Left (c : Settings) (k : ℕ) (t : Sending) : Type 0 where
+pub record ToSend (c : Settings) (k : ℕ) (t : Sending) : Type 0 where
   pub binary : Bits (t .bits)
   pub size : length (t .bits) ≡ lengthLeft c (t .counter) k
   pub turn : t .z ≤ 3
@@ -47,29 +68,24 @@ record FramesSent (c : Settings) (k : ℕ) (t : Sending) (labels : List ℕ) : T
   turn : iter (afterBits c) k (readAgain t labels) .z ≡ iter (afterLabels c) k t .z
   most : iter (afterLabels c) k t .z ≤ 3
 
--- a list of no length
-pub nothing : (l : List ℕ) → length l ≡ 0 → [] ≡ l
-nothing [] e = refl
-nothing (x ∷ l) e = absurd (omega arith)
-
 -- Sound settings.
 module _ (c : Settings) (sound : Sound c) where
   -- the next frame, and what is left then
   pub frame-sent :
-      (k : ℕ) (t : Sending) → Left c (suc k) t
+      (k : ℕ) (t : Sending) → ToSend c (suc k) t
       → Written (ringCount c) (shapeNext c (t .counter)) (t .z) (take (lengthNext c (t .counter)) (t .bits)) (nextLabels c t)
   unfolding nextLabels frameLengths frameBits total
   frame-sent k t l =
       let fits = next-fits c sound (t .counter) in
       let enough : lengthNext c (t .counter) ≤ length (t .bits) = omega (arith, l .size) in
       written (ringCount c) (shapeNext c (t .counter)) (t .z) (take (lengthNext c (t .counter)) (t .bits))
-      (fits .threes) (l .turn) (fits .room)
+      (fits .limits .threes) (l .turn) (fits .room)
       (bits-take (lengthNext c (t .counter)) (t .bits) (l .binary))
       (length-take-le (lengthNext c (t .counter)) (t .bits) enough ∙ sym (fits .size))
 
-  pub left-next : (k : ℕ) (t : Sending) → Left c (suc k) t → Left c k (afterLabels c t)
+  pub to-send-next : (k : ℕ) (t : Sending) → ToSend c (suc k) t → ToSend c k (afterLabels c t)
   unfolding afterLabels frameLengths frameBits total
-  left-next k t l =
+  to-send-next k t l =
       record {
         binary = bits-drop (lengthNext c (t .counter)) (t .bits) (l .binary);
         size = length-drop (lengthNext c (t .counter)) (t .bits) ∙ omega (arith, l .size);
@@ -78,7 +94,7 @@ module _ (c : Settings) (sound : Sound c) where
 
   -- one frame before those whose labels are `labels`
   sent-next :
-      (k : ℕ) (t : Sending) (labels : List ℕ) → Left c (suc k) t → FramesSent c k (afterLabels c t) labels
+      (k : ℕ) (t : Sending) (labels : List ℕ) → ToSend c (suc k) t → FramesSent c k (afterLabels c t) labels
       → FramesSent c (suc k) t (nextLabels c t ++ labels)
   unfolding emit iter numbersFit allStepsFit nextBits afterBits afterLabels
   sent-next k t labels l rest =
@@ -109,7 +125,7 @@ module _ (c : Settings) (sound : Sound c) where
 
       first-ranges : inRange (ringCount c) (c .uncoded) 4 (take 16 whole) ≡ true
       first-ranges =
-          ap₂ (λ (q : ℕ) (l : List ℕ). inRange (ringCount c) q 4 l) (sym (uncoded-is c sound (highNext c (t .counter)))) first ∙ w .ranges
+          ap (inRange (ringCount c) (c .uncoded) 4) first ∙ (sym (shape-range c sound (t .counter) (nextLabels c t)) ∙ w .ranges)
 
       others-ranges : inRange (ringCount c) (c .uncoded) (4 * k) (drop 16 whole) ≡ true
       others-ranges = ap (inRange (ringCount c) (c .uncoded) (4 * k)) others ∙ rest .ranges
@@ -132,7 +148,7 @@ module _ (c : Settings) (sound : Sound c) where
       others-back : emit (nextBits c) (afterBits c) k (afterBits c (readAgain t whole)) ≡ drop (lengthNext c (t .counter)) (t .bits)
       others-back = ap (emit (nextBits c) (afterBits c) k) after ∙ rest .back
 
-  frames-sent : (k : ℕ) (t : Sending) → Left c k t → FramesSent c k t (emit (nextLabels c) (afterLabels c) k t)
+  frames-sent : (k : ℕ) (t : Sending) → ToSend c k t → FramesSent c k t (emit (nextLabels c) (afterLabels c) k t)
   unfolding emit iter numbersFit allStepsFit inRange frameLengths total
   frames-sent zero t l =
       record {
@@ -144,7 +160,7 @@ module _ (c : Settings) (sound : Sound c) where
         turn = refl;
         most = l .turn;
       }
-  frames-sent (suc k) t l = sent-next k t _ l (frames-sent k (afterLabels c t) (left-next k t l))
+  frames-sent (suc k) t l = sent-next k t _ l (frames-sent k (afterLabels c t) (to-send-next k t l))
 
 -- what holds of the labels of a data frame
 pub record Sent (c : Settings) (register z : ℕ) (bits labels : List ℕ) : Type 0 where
@@ -180,8 +196,8 @@ module _
           turn-most = frames .most;
         }
       where
-        left : Left c (c .frames) (sendingOf c register z bits)
-        left =
+        whole : ToSend c (c .frames) (sendingOf c register z bits)
+        whole =
             record {
               binary = bits-scramble (c .role) register bits;
               size = length-scramble (c .role) register bits ∙ (size ∙ sym (sound .frame .adds));
@@ -189,4 +205,4 @@ module _
             }
 
         frames : FramesSent c (c .frames) (sendingOf c register z bits) (dataLabels c register z bits)
-        frames = frames-sent c sound (c .frames) (sendingOf c register z bits) left
+        frames = frames-sent c sound (c .frames) (sendingOf c register z bits) whole

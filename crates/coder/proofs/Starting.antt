@@ -10,24 +10,25 @@ use native.Mathlib.Omega.{arith}
 use lib.Dec.{eqb}
 use lib.ListN.{length, replicate, length-replicate}
 use borrow.Author.Tests.{eqb-true, eqb-false}
-use Rattle.laws.specs.Digits.{Bits}
+use Rattle.bits.specs.Digits.{Bits}
 use Rattle.laws.proofs.Choices.{no-tests, passed-over, none-first}
+use Rattle.line.specs.Asked.{asked}
 use Rattle.line.specs.declared.settings.Settings.{Settings}
 use Rattle.line.specs.declared.settings.Worked.{Worked}
 use Rattle.line.specs.declared.settings.Worked.the-variants.{Accepted, Refused}
-use Rattle.line.proofs.Acceptance.{Right, accepted-when}
+use Rattle.line.proofs.Acceptance.{Right, accepted-when, refused-some}
 use Rattle.coder.specs.declared.states.State.{State}
 use Rattle.coder.specs.declared.states.Started.{Started}
 use Rattle.coder.specs.declared.states.Coded.{Coded}
 use Rattle.coder.specs.State.{stateOf, workedIn, unfit, stateRefusalOf, startedOf, shortStartedOf}
 use Rattle.coder.specs.Answers.{writtenOf, readOf, bitsAfter}
-use Rattle.coder.proofs.Acceptance.{Taken, never-zero, fit-passes, passes-fit, acceptance, written-sendable}
+use Rattle.coder.proofs.Acceptance.{Taken, fit-passes, passes-fit, acceptance, written-sendable}
 use Rattle.coder.proofs.Acceptance.{refused-keeps, refused-read-keeps}
 use Rattle.coder.proofs.Back.{next-worked, next-held, next-turn, writing-back}
 
 -- what a state is when a start answers it
 pub record Fit (st : State) : Type 0 where
-  pub right : Right (st .role) (st .s) (st .n) (st .shaping) (st .mark)
+  pub right : Right (st .asked)
   pub held : st .register < 2 ^ 23
   pub turn : st .z ≤ 3
 
@@ -38,11 +39,11 @@ begun st = record { refusal = 0; state = st }
 module _ (st : State) where
   -- the settings of such a state are accepted
   pub fit-worked : Fit st → (c : Settings) × (workedIn st ≡ Accepted c)
-  fit-worked fit = accepted-when (st .role) (st .s) (st .n) (st .shaping) (st .mark) .1 (fit .right)
+  fit-worked fit = accepted-when (st .asked) .1 (fit .right)
 
   pub worked-fit : (c : Settings) → workedIn st ≡ Accepted c → st .register < 2 ^ 23 → st .z ≤ 3 → Fit st
   worked-fit c e held turn =
-      record { right = accepted-when (st .role) (st .s) (st .n) (st .shaping) (st .mark) .0 (c, e); held = held; turn = turn }
+      record { right = accepted-when (st .asked) .0 (c, e); held = held; turn = turn }
 
   -- it is started with 0, and nothing is changed in it
   pub start-answers : Fit st → startedOf st ≡ begun st
@@ -60,7 +61,7 @@ module _ (st : State) where
   started-fit e = go (workedIn st) refl e
     where
       go : (w : Worked) → workedIn st ≡ w → stateRefusalOf w st ≡ 0 → Fit st
-      go (Refused n) f g = absurd (never-zero st (f ∙ ap Refused g))
+      go (Refused n) f g = absurd (refused-some (st .asked) n f g)
       go (Accepted c) f g = let fit = passes-fit st (none-first (unfit st) 6 [] g) in worked-fit c f (fit .0) (fit .1)
 
   -- and no other is
@@ -71,16 +72,16 @@ module _ (st : State) where
 module _ (role s n mark : ℕ) where
   -- the state that it asks for
   abbrev pub plain : State
-  plain = stateOf role s n 0 mark 0 0
+  plain = stateOf (asked role s n 0 mark) 0 0
 
-  plain-fit : Right role s n 0 mark → Fit plain
+  plain-fit : Right (asked role s n 0 mark) → Fit plain
   plain-fit right = record { right = right; held = omega arith; turn = omega arith }
 
-  pub short-start-answers : Right role s n 0 mark → shortStartedOf role s n mark ≡ begun plain
+  pub short-start-answers : Right (asked role s n 0 mark) → shortStartedOf role s n mark ≡ begun plain
   unfolding shortStartedOf
   short-start-answers right = start-answers plain (plain-fit right)
 
-  pub short-start-accepts : (shortStartedOf role s n mark .refusal ≡ 0) ↔ Right role s n 0 mark
+  pub short-start-accepts : (shortStartedOf role s n mark .refusal ≡ 0) ↔ Right (asked role s n 0 mark)
   unfolding shortStartedOf
   short-start-accepts = ((λ e. start-accepts plain .0 e .right), λ right. start-accepts plain .1 (plain-fit right))
 
@@ -90,7 +91,7 @@ module _ (st : State) (done : startedOf st .refusal ≡ 0) where
   pub writes-from-start :
       (c : Settings)
       × (workedIn (startedOf st .state) ≡ Accepted c)
-      × ((bits out : List ℕ) → length bits ≡ c .bits → length out ≡ 16 * c .frames → Bits bits
+      × ((bits out : List ℕ) → length bits ≡ c .user → length out ≡ 16 * c .frames → Bits bits
       → Taken c bits (writtenOf (startedOf st .state) bits (length out)))
   writes-from-start =
       let fit = start-accepts st .0 done in

@@ -1,6 +1,11 @@
 -- The bits of a data frame's labels, and when they are accepted (document 01, "What comes back"). Each refusal speaks of the whole data
 -- frame, so that all labels are tested for 10 before any frame for 11, and all frames for 11 before any for 12. V.34 has neither an inverse
--- nor refusals: a clause named here is the one whose inverse is taken, or that sets the limit.
+-- nor refusals: a clause named here is the one whose inverse is taken, or that sets the limit. For s 0, n 1 there are twelve frames of
+-- eight bits:
+--
+--     labels 0 to 15     bits 0 to 7
+--     labels 16 to 31    bits 8 to 15
+--     ..
 use mathlib.Core.Bool.{Bool, true, _&&_}
 use mathlib.Core.List.{List}
 use Prim.Native.Nat.{ℕ, zero, suc, _*_}
@@ -10,7 +15,8 @@ use Rattle.line.specs.Switching.{counterAfter}
 use Rattle.line.specs.declared.settings.Settings.{Settings}
 use Rattle.frame.specs.Reading.{frameRead, frameReadTurned, inRange, numberFits, stepsFit}
 use Rattle.scrambler.specs.Scrambler.{descramble, pushAll}
-use Rattle.coder.specs.Sending.{ringCount, shapeNext}
+use Rattle.frame.specs.Next.{shapeNext}
+use Rattle.coder.specs.Sending.{ringCount}
 
 -- what is left to read of a data frame: the labels (clause 9.6.1), the switching counter (8.2), and Z (9.5)
 pub record Receiving : Type 0 where

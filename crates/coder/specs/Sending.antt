@@ -10,13 +10,11 @@ use Prim.Native.Nat.{ℕ}
 use lib.ListN.{take, drop}
 use Rattle.laws.specs.Emit.{emit, iter}
 use Rattle.line.specs.Settings.{ringsOfShaping}
-use Rattle.line.specs.Switching.{isHigh, counterAfter}
+use Rattle.line.specs.Switching.{counterAfter}
 use Rattle.line.specs.declared.settings.Settings.{Settings}
-use Rattle.frame.specs.Shape.{shapeOf, lengthOf}
+use Rattle.frame.specs.Next.{shapeNext, lengthNext}
 use Rattle.frame.specs.Writing.{frameLabels, frameTurned}
-use Rattle.frame.specs.declared.shape.Shape.{Shape}
 use Rattle.scrambler.specs.Scrambler.{scramble, pushAll}
-use mathlib.Core.Bool.{Bool}
 
 -- the ring count M of settings (clause 9.2, Table 10)
 abbrev pub ringCount : Settings → ℕ
@@ -28,17 +26,7 @@ pub record Sending : Type 0 where
   pub counter : ℕ
   pub z : ℕ
 
--- whether the next frame is high (clause 8.2), its shape (9.3) and how many bits it has (8.2)
-abbrev pub highNext : Settings → ℕ → Bool
-highNext c counter = isHigh (c .frames) (c .step) counter
-
-abbrev pub shapeNext : Settings → ℕ → Shape
-shapeNext c counter = shapeOf c (highNext c counter)
-
-abbrev pub lengthNext : Settings → ℕ → ℕ
-lengthNext c counter = lengthOf (c .high) (highNext c counter)
-
--- its labels (clauses 9.3, 9.4, 9.5 and 9.6.1), and what is left then: the counter goes on by 8.2, and Z by 9.5
+-- the labels of the next frame (clauses 9.3, 9.4, 9.5 and 9.6.1), and what is left then: the counter goes on by 8.2, and Z by 9.5
 unfoldable pub nextLabels : Settings → Sending → List ℕ
 nextLabels c t = frameLabels (ringCount c) (shapeNext c (t .counter)) (t .z) (take (lengthNext c (t .counter)) (t .bits))
 

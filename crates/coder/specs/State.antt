@@ -1,31 +1,32 @@
--- The state, and the two starts (document 01, "Settings" and "What comes back"). A start is refused by the first that holds of 1 to 6,
--- the settings' own, and 7, register 2^23 or more or Z above 3. A refused start, which was given no state, answers a state of zeros.
+-- The state, and the two starts (document 01, "Settings" and "What comes back"). A start is refused by the first that holds of the
+-- settings' own refusals and 7, register 2^23 or more or Z above 3. A refused start, which was given no state, answers a state of zeros.
 --
 --     role   s   n    shaping   mark   register   Z
 --     0      5   14   1         1      8388607    3      done
 --     0      5   14   1         1      8388608    0      refused 7, all zeros
 --     0      5   14   1         2      8388608    0      refused 5, all zeros
 use mathlib.Core.Bool.{Bool, cond, _||_}
-use mathlib.Core.List.{List, [], _∷_}
+use mathlib.Core.List.{[], _∷_}
 use Prim.Native.Nat.{ℕ, _^_}
 use lib.Dec.{leb, ltb, eqb}
+use Rattle.line.specs.Asked.{asked}
 use Rattle.line.specs.Settings.{workedOf}
+use Rattle.line.specs.declared.asked.Asked.{Asked}
 use Rattle.line.specs.declared.settings.Worked.{Worked}
 use Rattle.line.specs.declared.settings.Worked.the-variants.{Accepted, Refused}
 use Rattle.laws.specs.Choice.{refusal}
 use Rattle.coder.specs.declared.states.State.{State}
 use Rattle.coder.specs.declared.states.Started.{Started}
 
-abbrev pub stateOf : ℕ → ℕ → ℕ → ℕ → ℕ → ℕ → ℕ → State
-stateOf role s n shaping mark register z =
-    record { role = role; s = s; n = n; shaping = shaping; mark = mark; register = register; z = z }
+abbrev pub stateOf : Asked → ℕ → ℕ → State
+stateOf asked register z = record { asked = asked; register = register; z = z }
 
 abbrev pub zeros : State
-zeros = stateOf 0 0 0 0 0 0 0
+zeros = stateOf (asked 0 0 0 0 0) 0 0
 
 -- the settings of a state, worked out
 abbrev pub workedIn : State → Worked
-workedIn st = workedOf (st .role) (st .s) (st .n) (st .shaping) (st .mark)
+workedIn st = workedOf (st .asked)
 
 -- 7: register 2^23 or more, or Z above 3
 abbrev pub unfit : State → Bool
@@ -43,4 +44,4 @@ startedOf st =
 
 -- the short start, without shaping, register or Z: it takes 0 for each
 unfoldable pub shortStartedOf : ℕ → ℕ → ℕ → ℕ → Started
-shortStartedOf role s n mark = startedOf (stateOf role s n 0 mark 0 0)
+shortStartedOf role s n mark = startedOf (stateOf (asked role s n 0 mark) 0 0)

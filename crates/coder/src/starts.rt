@@ -1,27 +1,20 @@
 // The two starts.
 ghost use mathlib.Core.Path.{_≡_};
-ghost use Rattle.coder.specs.State.{stateOf, unfit, stateRefusalOf, workedIn, startedOf, shortStartedOf};
+ghost use Rattle.coder.specs.State.{stateOf, zeros, stateRefusalOf, workedIn, startedOf, shortStartedOf};
+use crate::answers::is_unfit;
 use crate::states::Started;
 use crate::states::State;
+use line::Asked;
 use line::Worked;
 use line::refusal_of;
 use line::work_out;
-
-// 7: register 2^23 or more, or Z above 3.
-pub fn is_unfit(st: State) -> bool
-    ensures { λ r. ⌜ r ≡ unfit st ⌝ }
-{
-    if st.register >= 8388608 {
-        return true;
-    }
-    st.z > 3
-}
 
 // The settings' own refusal, then 7.
 pub fn state_refusal(st: State) -> u64
     ensures { λ r. ⌜ r ≡ stateRefusalOf (workedIn st) st ⌝ }
 {
-    let w = work_out(st.role, st.s, st.n, st.shaping, st.mark);
+    let asked = st.asked;
+    let w = work_out(asked);
     let Worked::Accepted(_) = w else {
         return refusal_of(w);
     };
@@ -32,29 +25,13 @@ pub fn state_refusal(st: State) -> u64
 }
 
 // A line at its start, with the register and Z that it is given.
-pub fn start(role: u64, s: u64, n: u64, shaping: u64, mark: u64, register: u64, z: u64) -> Started
-    ensures { λ r. ⌜ r ≡ startedOf (stateOf role s n shaping mark register z) ⌝ }
+pub fn start(asked: Asked, register: u64, z: u64) -> Started
+    ensures { λ r. ⌜ r ≡ startedOf (stateOf asked register z) ⌝ }
 {
-    let st = State {
-        role,
-        s,
-        n,
-        shaping,
-        mark,
-        register,
-        z,
-    };
+    let st = State { asked, register, z };
     let refusal = state_refusal(st);
     if refusal != 0 {
-        let zeros = State {
-            role: 0,
-            s: 0,
-            n: 0,
-            shaping: 0,
-            mark: 0,
-            register: 0,
-            z: 0,
-        };
+        let zeros = no_state();
         return Started {
             refusal,
             state: zeros,
@@ -66,9 +43,34 @@ pub fn start(role: u64, s: u64, n: u64, shaping: u64, mark: u64, register: u64, 
     }
 }
 
+// The state of a refused start, which was given none.
+fn no_state() -> State
+    ensures { λ r. ⌜ r ≡ zeros ⌝ }
+{
+    let nothing = Asked {
+        role: 0,
+        s: 0,
+        n: 0,
+        shaping: 0,
+        mark: 0,
+    };
+    State {
+        asked: nothing,
+        register: 0,
+        z: 0,
+    }
+}
+
 // The short start: shaping 0, register 0 and Z 0.
 pub fn short_start(role: u64, s: u64, n: u64, mark: u64) -> Started
     ensures { λ r. ⌜ r ≡ shortStartedOf role s n mark ⌝ }
 {
-    start(role, s, n, 0, mark, 0, 0)
+    let asked = Asked {
+        role,
+        s,
+        n,
+        shaping: 0,
+        mark,
+    };
+    start(asked, 0, 0)
 }

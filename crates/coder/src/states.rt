@@ -1,12 +1,9 @@
 // The state of a line, and the answers that hold one.
+use line::Asked;
 
-// The settings as plain numbers, the scrambler's register and Z. M and the rest are worked out anew in each call.
+// The settings as they were asked for, the scrambler's register and Z. M and the rest are worked out anew in each call.
 pub struct State {
-    pub role: u64,
-    pub s: u64,
-    pub n: u64,
-    pub shaping: u64,
-    pub mark: u64,
+    pub asked: Asked,
     pub register: u64,
     pub z: u64,
 }

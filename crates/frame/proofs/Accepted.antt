@@ -7,17 +7,20 @@ use Prim.Native.Nat.{ℕ, _+_, _*_, _^_, _≤_, _<_}
 use lib.ListN.{length, take, length-append}
 use lib.Seq.{take-at, drop-at}
 use borrow.Author.Tests.{ltb-true}
-use Rattle.laws.specs.Digits.{value, digits, Bits}
+use Rattle.bits.specs.Digits.{value, digits, Bits}
 use Rattle.laws.specs.Emit.{emit, iter}
-use Rattle.laws.proofs.Digitals.{length-digits, bits-digits, bits-append, value-digits}
+use Rattle.bits.proofs.Digitals.{length-digits, bits-digits, bits-append, value-digits}
 use Rattle.listing.specs.Number.{ringsOf}
-use Rattle.listing.specs.Sets.{Below8, asList, ofList}
+use Rattle.listing.specs.Sets.{asList, ofList}
 use Rattle.listing.proofs.Agree.{rings-of-number}
 use Rattle.frame.specs.declared.shape.Shape.{Shape}
 use Rattle.frame.specs.Shape.{frameLength}
-use Rattle.frame.specs.Writing.{Writing, symbolLabels, afterSymbol, frameStart, frameLabels, frameTurned}
-use Rattle.frame.specs.Reading.{Reading, readBits, afterRead, ringsRead, numberRead, bitsRead, frameRead, frameReadTurned, inRange, numberFits, stepsFit}
-use Rattle.frame.proofs.Chain.{reading, SymbolsRead, writeAgain, four-symbols, symbols-read}
+use Rattle.frame.specs.Writing.{Writing, symbolLabels, afterSymbol, frameStart, labelsWritten}
+use Rattle.frame.specs.Writing.{turnWritten, frameRings, frameLabels, frameTurned}
+use Rattle.frame.specs.Reading.{Reading, readBits, afterRead, ringsRead, numberRead, bitsRead}
+use Rattle.frame.specs.Reading.{frameRead, frameReadTurned, inRange, numberFits, stepsFit}
+use Rattle.frame.proofs.InTurn.{reading, SymbolsRead, writeAgain, four-symbols, symbols-read}
+use Rattle.frame.proofs.Sixteen.{eight-below}
 use Rattle.frame.proofs.Written.{last-turn}
 
 pub record Accepted (M : ℕ) (shape : Shape) (z : ℕ) (labels bits : List ℕ) : Type 0 where
@@ -47,26 +50,22 @@ module _ (M : ℕ) (shape : Shape) (z : ℕ) (labels : List ℕ) where
       (sixteen : length labels ≡ 16) (ranges : inRange M (shape .uncoded) 4 labels ≡ true)
       (fits : numberFits M shape labels ≡ true) (steps : stepsFit (shape .threes) z 4 labels ≡ true)
     where
-      symbols : SymbolsRead M q 4 start symbolsBits
+      symbols : SymbolsRead q 4 start symbolsBits
       symbols = symbols-read M q 4 labels (shape .threes) z (record { size = sixteen; ranges = ranges; steps = steps; turn = small })
 
       S-below : S < 2 ^ shape .shell
       unfolding numberFits
       S-below = ltb-true S (2 ^ shape .shell) fits
 
-      -- the rings are below M, and their number gives them back
-      rings-below : Below8 M (ofList (ringsRead q 4 labels))
-      unfolding ofList ringsRead
-      rings-below =
-          let r = symbols .rings in
-          (((r .0, r .1 .0), (r .1 .1 .0, r .1 .1 .1 .0)), ((r .1 .1 .1 .1 .0, r .1 .1 .1 .1 .1 .0), (r .1 .1 .1 .1 .1 .1 .0, r .1 .1 .1 .1 .1 .1 .1 .0)))
-
+      -- the number of the rings gives them back
       rings-back : asList (ringsOf M S) ≡ ringsRead q 4 labels
       unfolding numberRead ofList ringsRead
-      rings-back = ap asList (rings-of-number M (ofList (ringsRead q 4 labels)) rings-below)
+      rings-back = ap asList (rings-of-number M (ofList (ringsRead q 4 labels)) (eight-below M q labels ranges))
 
       -- what is written starts where reading did
-      start-again : frameStart M shape z (frameRead M shape z labels) ≡ writeAgain q 4 start symbolsBits
+      start-again :
+          let bits = frameRead M shape z labels in
+          frameStart shape (frameRings M shape bits) z bits ≡ writeAgain q 4 start symbolsBits
       unfolding frameStart frameRead bitsRead
       start-again =
           λ i. record {
@@ -82,13 +81,15 @@ module _ (M : ℕ) (shape : Shape) (z : ℕ) (labels : List ℕ) where
               ∙ value-digits (shape .shell) S S-below
 
       pub accepted : Accepted M shape z labels (frameRead M shape z labels)
-      unfolding frameLength frameLabels frameTurned frameRead bitsRead
+      unfolding frameLength labelsWritten turnWritten frameLabels frameTurned frameRead bitsRead
       accepted =
           record {
             binary = bits-append (digits (shape .shell) S) symbolsBits (bits-digits (shape .shell) S) (symbols .binary);
             size = length-append (digits (shape .shell) S) symbolsBits ∙ ap₂ _+_ (length-digits (shape .shell) S) symbols-size;
             back = ap (emit (symbolLabels q) (afterSymbol q) 4) start-again ∙ symbols .back;
-            turn = ap (λ (w : Writing). iter (afterSymbol q) 4 w .z) start-again ∙ (symbols .turn ∙ sym (last-turn q (shape .threes) z labels));
+            turn =
+                ap (λ (w : Writing). iter (afterSymbol q) 4 w .z) start-again
+                ∙ (symbols .turn ∙ sym (last-turn q (shape .threes) z labels));
           }
         where
           symbols-size : length symbolsBits ≡ 8 + shape .threes + 8 * q

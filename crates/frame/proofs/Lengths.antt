@@ -1,27 +1,30 @@
 -- The shapes of accepted settings: a high frame has b bits and a low one b − 1, and each shape is within what writing and reading ask
 -- for. A low frame is asked for only where there is one: where r is below P. Assumes nothing.
 use mathlib.Core.Bool.{Bool, true, false, cond}
-use mathlib.Core.Path.{_≡_, refl}
+use mathlib.Core.Path.{_≡_, refl, sym}
 use Prim.Native.Nat.{ℕ, _+_, _-_, _^_, _≤_, _<_}
 use native.Mathlib.Nat.{le-trans}
 use native.Mathlib.Omega.{arith}
 use lib.Dec.{leb}
 use lib.Pow.{pow-mono}
 use borrow.Author.Tests.{leb-true, leb-false}
+use Rattle.line.specs.declared.asked.Asked.{Asked}
 use Rattle.line.specs.declared.settings.Settings.{Settings}
 use Rattle.line.specs.declared.settings.Worked.the-variants as worked
 use Rattle.line.specs.Settings.{ringsOfShaping, workedOf}
-use Rattle.line.specs.Switching.{isHigh}
 use Rattle.line.proofs.Soundness.{Sound, accepted-sound}
 use Rattle.frame.specs.declared.shape.Shape.{Shape}
+use Rattle.frame.specs.Next.{highNext, shapeNext}
+use Rattle.frame.specs.Requires.{Shaped, Stepping, Limited}
 use Rattle.frame.specs.Shape.{lengthOf, shapeOf, frameLength}
 
--- a shape fits the settings as that of a high or a low frame
+-- a shape fits the settings as that of a high or a low frame: it has the bits of such a frame, of which there are at most 80, and the q of
+-- the settings
 pub record ShapeFits (c : Settings) (high : Bool) (shape : Shape) : Type 0 where
   pub size : frameLength shape ≡ lengthOf (c .high) high
-  pub few : shape .shell ≤ 31
-  pub threes : shape .threes ≤ 4
-  pub uncoded : shape .uncoded ≤ 5
+  pub short : frameLength shape ≤ 80
+  pub uncoded : shape .uncoded ≡ c .uncoded
+  pub limits : Limited shape
   pub room : 2 ^ shape .shell ≤ ringsOfShaping (c .shaping) ^ 8
 
 -- the two kinds of shapes: no S and I3 in the first f − 8 symbols, or K or K − 1 bits of S and I3 in every symbol
@@ -43,9 +46,9 @@ module _ (c : Settings) (sound : Sound c) where
   plain-fits high low few =
       record {
         size = omega (arith, bounds .0);
-        few = omega arith;
-        threes = omega (arith, bounds .1);
-        uncoded = omega arith;
+        short = omega (arith, bounds .0, bounds .1);
+        uncoded = sym (sound .plain few .1);
+        limits = record { few = omega arith; threes = omega (arith, bounds .1); uncoded = omega arith };
         room = room-for 0 (omega arith);
       }
     where
@@ -64,18 +67,18 @@ module _ (c : Settings) (sound : Sound c) where
       let s = sound .shaped more in
       record {
         size = omega (arith, s .1);
-        few = sound .shell-most;
-        threes = omega arith;
-        uncoded = sound .uncoded-most;
+        short = omega (arith, s .1, sound .high-most);
+        uncoded = refl;
+        limits = record { few = sound .shell-most; threes = omega arith; uncoded = sound .uncoded-most };
         room = room-for (c .shell) (omega arith);
       }
   shaped-fits false more =
       let s = sound .shaped more in
       record {
         size = omega (arith, s .0, s .1);
-        few = omega (arith, sound .shell-most);
-        threes = omega arith;
-        uncoded = sound .uncoded-most;
+        short = omega (arith, s .0, s .1, sound .high-most);
+        uncoded = refl;
+        limits = record { few = omega (arith, sound .shell-most); threes = omega arith; uncoded = sound .uncoded-most };
         room = room-for (c .shell - 1) (omega arith);
       }
 
@@ -88,12 +91,35 @@ module _ (c : Settings) (sound : Sound c) where
       go true e = plain-fits high (λ l. sound .low-least (low l)) (leb-true (c .high) 12 e)
       go false e = shaped-fits high (leb-false (c .high) 12 e)
 
+  -- the next frame is low only where r is below P
+  low-next : (counter : ℕ) → highNext c counter ≡ false → c .step < c .frames
+  low-next counter e = omega (arith, leb-false (c .frames) (counter + c .step) e)
+
   -- and so of the next frame, wherever the counter stands
-  pub next-fits : (counter : ℕ) → ShapeFits c (isHigh (c .frames) (c .step) counter) (shapeOf c (isHigh (c .frames) (c .step) counter))
-  next-fits counter = shape-fits (isHigh (c .frames) (c .step) counter) (λ e. omega (arith, leb-false (c .frames) (counter + c .step) e))
+  pub next-fits : (counter : ℕ) → ShapeFits c (highNext c counter) (shapeNext c counter)
+  next-fits counter = shape-fits (highNext c counter) (low-next counter)
+
+  -- a shape can be worked out: a line has low frames only where r is below P
+  pub shaped : (high : Bool) → (high ≡ false → c .step < c .frames) → Shaped c high
+  shaped true low = record { plain = λ h. sound .high-least; shells = λ h e. sound .shaped h .0 }
+  shaped false low =
+      let least = sound .low-least (low refl) in
+      record { plain = λ h. omega arith; shells = λ h e. sound .shaped h .0 }
+
+  -- and so can the next frame
+  pub stepping : (counter : ℕ) → counter < c .frames → Stepping c counter
+  stepping counter below =
+      record {
+        most = sound .frames-most;
+        step = sound .step-most;
+        below = below;
+        shaped = shaped (highNext c counter) (low-next counter);
+        limits = next-fits counter .limits;
+        size = next-fits counter .size;
+      }
 
 -- and of all accepted settings
 pub accepted-fits :
-    (role s n shaping mark : ℕ) (c : Settings) → workedOf role s n shaping mark ≡ worked.Accepted c
+    (asked : Asked) (c : Settings) → workedOf asked ≡ worked.Accepted c
     → (high : Bool) → (high ≡ false → c .step < c .frames) → ShapeFits c high (shapeOf c high)
-accepted-fits role s n shaping mark c e = shape-fits c (accepted-sound role s n shaping mark c e)
+accepted-fits asked c e = shape-fits c (accepted-sound asked c e)

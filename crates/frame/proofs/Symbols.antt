@@ -12,37 +12,41 @@ use lib.ListN.{length, getD, take, drop, length-append, length-drop}
 use lib.Pow.{pow-pos}
 use lib.Seq.{take-add, take-at, drop-at}
 use borrow.Author.Tests.{ltb-true, lt-ltb}
-use Rattle.laws.specs.Digits.{value, digits, Bits}
-use Rattle.laws.proofs.Digitals.{length-digits, bits-digits, bits-append, bits-drop, bits-at, value-take-below, value-digits, digits-value-take}
+use Rattle.bits.specs.Digits.{value, digits, Bits}
+use Rattle.bits.proofs.Digitals.{length-digits, bits-digits, bits-append, bits-drop, bits-at}
+use Rattle.bits.proofs.Digitals.{value-take-below, value-digits, digits-value-take}
 use Rattle.frame.specs.declared.symbol.Symbol.{Symbol}
 use Rattle.frame.specs.Shape.{symbolLength}
 use Rattle.frame.specs.Writing.{symbolOf, turned}
 use Rattle.frame.specs.Reading.{symbolRead, symbolBits}
 
 -- the parts of a symbol are in their ranges; I3 is 0 where it is not carried
-pub record Ranged (q : ℕ) (three : Bool) (s : Symbol) : Type 0 where
-  pub one : s .i1 ≤ 1
-  pub two : s .i2 ≤ 1
-  pub third : s .i3 ≤ cond three 1 0
-  pub low : s .first < 2 ^ q
-  pub high : s .second < 2 ^ q
+pub record SymbolFits (q : ℕ) (three : Bool) (s : Symbol) : Type 0 where
+  pub i1 : s .i1 ≤ 1
+  pub i2 : s .i2 ≤ 1
+  pub i3 : s .i3 ≤ cond three 1 0
+  pub first : s .first < 2 ^ q
+  pub second : s .second < 2 ^ q
 
 -- I3 is a bit at any rate
-third-bit : (three : Bool) (x : ℕ) → x ≤ cond three 1 0 → x ≤ 1
-third-bit true x h = h
-third-bit false x h = omega arith
+pub third-bit : {q : ℕ} {three : Bool} {s : Symbol} → SymbolFits q three s → s .i3 ≤ 1
+third-bit {q} {three} {s} r = go three (r .i3)
+  where
+    go : (v : Bool) → s .i3 ≤ cond v 1 0 → s .i3 ≤ 1
+    go true h = h
+    go false h = omega arith
 
 -- The symbol out of bits.
 
-pub of-ranged : (q : ℕ) (three : Bool) (bits : List ℕ) → Bits bits → Ranged q three (symbolOf q three bits)
+pub of-fits : (q : ℕ) (three : Bool) (bits : List ℕ) → Bits bits → SymbolFits q three (symbolOf q three bits)
 unfolding symbolOf
-of-ranged q three bits binary =
+of-fits q three bits binary =
     record {
-      one = bits-at bits 0 binary;
-      two = bits-at bits 1 binary;
-      third = third three;
-      low = value-take-below q rest tail;
-      high = value-take-below q (drop q rest) (bits-drop q rest tail);
+      i1 = bits-at bits 0 binary;
+      i2 = bits-at bits 1 binary;
+      i3 = third three;
+      first = value-take-below q rest tail;
+      second = value-take-below q (drop q rest) (bits-drop q rest tail);
     }
   where
     rest : List ℕ
@@ -54,6 +58,14 @@ of-ranged q three bits binary =
     third : (v : Bool) → cond v (getD bits 2 0) 0 ≤ cond v 1 0
     third true = bits-at bits 2 binary
     third false = omega arith
+
+-- of the symbol at a place
+pub symbol-fits :
+    (q : ℕ) (three : Bool) (at : ℕ) (bits : List ℕ) (symbol : Symbol)
+    → Bits bits
+    → symbol ≡ symbolOf q three (drop at bits)
+    → SymbolFits q three symbol
+symbol-fits q three at bits symbol binary is-there = rw is-there (of-fits q three (drop at bits) (bits-drop at bits binary))
 
 -- the bits of a symbol, cut where its parts begin
 cut : (n q : ℕ) (bits : List ℕ) → take (n + 2 * q) bits ≡ take n bits ++ (take q (drop n bits) ++ take q (drop q (drop n bits)))
@@ -112,9 +124,9 @@ module _ (q : ℕ) (three : Bool) (s : Symbol) where
       go true = simp (length-append, length-digits) (omega arith)
       go false = simp (length-append, length-digits) (omega arith)
 
-  pub bits-symbolBits : Ranged q three s → Bits (symbolBits q three s)
+  pub bits-symbolBits : SymbolFits q three s → Bits (symbolBits q three s)
   unfolding symbolBits
-  bits-symbolBits r = (r .one, (r .two, bits-append (cond three (s .i3 ∷ []) []) _ (third three (r .third)) both))
+  bits-symbolBits r = (r .i1, (r .i2, bits-append (cond three (s .i3 ∷ []) []) _ (third three (r .i3)) both))
     where
       both : Bits (digits q (s .first) ++ digits q (s .second))
       both = bits-append (digits q (s .first)) (digits q (s .second)) (bits-digits q (s .first)) (bits-digits q (s .second))
@@ -124,9 +136,9 @@ module _ (q : ℕ) (three : Bool) (s : Symbol) where
       third false h = tt
 
   -- the symbol out of its bits is that symbol, whatever comes after them
-  pub of-bits : Ranged q three s → (rest : List ℕ) → symbolOf q three (symbolBits q three s ++ rest) ≡ s
+  pub of-bits : SymbolFits q three s → (rest : List ℕ) → symbolOf q three (symbolBits q three s ++ rest) ≡ s
   unfolding symbolBits symbolOf
-  of-bits r rest = go three (r .third)
+  of-bits r rest = go three (r .i3)
     where
       both : List ℕ
       both = digits q (s .first) ++ digits q (s .second) ++ rest
@@ -134,12 +146,12 @@ module _ (q : ℕ) (three : Bool) (s : Symbol) where
       first : value (take q both) ≡ s .first
       first =
           rw (append-assoc, take-at _ _ q (length-digits q (s .first)))
-          (value-digits q (s .first) (r .low))
+          (value-digits q (s .first) (r .first))
 
       second : value (take q (drop q both)) ≡ s .second
       second =
           rw (append-assoc, drop-at _ _ q (length-digits q (s .first)), take-at _ _ q (length-digits q (s .second)))
-          (value-digits q (s .second) (r .high))
+          (value-digits q (s .second) (r .second))
 
       go : (v : Bool) → s .i3 ≤ cond v 1 0 → symbolOf q v (symbolBits q v s ++ rest) ≡ s
       go true h = λ i. record { i1 = s .i1; i2 = s .i2; i3 = s .i3; first = first i; second = second i }
@@ -167,10 +179,10 @@ turned-most z s = omega arith
 
 -- from Z to Z the step of a symbol is I2 + 2·I3
 step-of :
-    (q : ℕ) (three : Bool) (z : ℕ) (s : Symbol) → Ranged q three s → z ≤ 3
+    (q : ℕ) (three : Bool) (z : ℕ) (s : Symbol) → SymbolFits q three s → z ≤ 3
     → (turned z s + 4 - z) % 4 ≡ s .i2 + 2 * s .i3
 unfolding turned
-step-of q three z s r turn = omega (arith, r .two, third-bit three (s .i3) (r .third))
+step-of q three z s r turn = omega (arith, r .i2, third-bit r)
 
 -- and by its step Z turns to Z
 turned-back :
@@ -180,7 +192,7 @@ turned-back z next hz hn = omega arith
 
 -- the symbol out of the labels of a symbol is that symbol
 pub read-labels :
-    (q : ℕ) (three : Bool) (ring₁ ring₂ z : ℕ) (s : Symbol) (rest : List ℕ) → Ranged q three s → z ≤ 3
+    (q : ℕ) (three : Bool) (ring₁ ring₂ z : ℕ) (s : Symbol) (rest : List ℕ) → SymbolFits q three s → z ≤ 3
     → symbolRead q z (fourLabels q ring₁ ring₂ z s rest) ≡ s
 unfolding symbolRead
 read-labels q three ring₁ ring₂ z s rest r turn =
@@ -188,15 +200,15 @@ read-labels q three ring₁ ring₂ z s rest r turn =
       i1 = s .i1;
       i2 = second i;
       i3 = third i;
-      first = rest-of q ring₁ (r .low) i;
-      second = rest-of q ring₂ (r .high) i;
+      first = rest-of q ring₁ (r .first) i;
+      second = rest-of q ring₂ (r .second) i;
     }
   where
     second : (turned z s + 4 - z) % 4 % 2 ≡ s .i2
-    second = rw (step-of q three z s r turn) (omega (arith, r .two))
+    second = rw (step-of q three z s r turn) (omega (arith, r .i2))
 
     third : (turned z s + 4 - z) % 4 / 2 ≡ s .i3
-    third = rw (step-of q three z s r turn) (omega (arith, r .two))
+    third = rw (step-of q three z s r turn) (omega (arith, r .i2))
 
 -- the labels are in their ranges, for rings below M
 pub label-below : (M q ring x : ℕ) → ring < M → x < 2 ^ q → 2 ^ q * ring + x < M * 2 ^ q
@@ -204,23 +216,24 @@ label-below M q ring x h l = rw (mul-comm (2 ^ q) ring) (digits-lt h l)
 
 -- and the Z step has no I3 where the symbol carries none
 pub step-fits :
-    (q : ℕ) (three : Bool) (z : ℕ) (s : Symbol) → Ranged q three s → z ≤ 3 → (three || ltb ((turned z s + 4 - z) % 4) 2) ≡ true
+    (q : ℕ) (three : Bool) (z : ℕ) (s : Symbol) → SymbolFits q three s → z ≤ 3 → (three || ltb ((turned z s + 4 - z) % 4) 2) ≡ true
 step-fits q true z s r turn = refl
 step-fits q false z s r turn =
-    rw (step-of q false z s r turn) (lt-ltb (s .i2 + 2 * s .i3) 2 (omega (arith, r .two, r .third)))
+    rw (step-of q false z s r turn) (lt-ltb (s .i2 + 2 * s .i3) 2 (omega (arith, r .i2, r .i3)))
 
 -- Labels a, b, Z and I1, in their ranges.
 module _ (q a b next one z : ℕ) (rest : List ℕ) where
-  pub read-ranged :
-      (three : Bool) → one ≤ 1 → (three || ltb ((next + 4 - z) % 4) 2) ≡ true → Ranged q three (symbolRead q z (a ∷ b ∷ next ∷ one ∷ rest))
+  pub read-fits :
+      (three : Bool) → one ≤ 1 → (three || ltb ((next + 4 - z) % 4) 2) ≡ true
+      → SymbolFits q three (symbolRead q z (a ∷ b ∷ next ∷ one ∷ rest))
   unfolding symbolRead
-  read-ranged three bit fits =
+  read-fits three bit fits =
       record {
-        one = bit;
-        two = omega arith;
-        third = third three fits;
-        low = mod-lt a (pow-pos q);
-        high = mod-lt b (pow-pos q);
+        i1 = bit;
+        i2 = omega arith;
+        i3 = third three fits;
+        first = mod-lt a (pow-pos q);
+        second = mod-lt b (pow-pos q);
       }
     where
       third : (v : Bool) → (v || ltb ((next + 4 - z) % 4) 2) ≡ true → (next + 4 - z) % 4 / 2 ≤ cond v 1 0

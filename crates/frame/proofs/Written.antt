@@ -9,21 +9,20 @@ use native.Mathlib.Omega.{arith}
 use lib.ListN.{length, take, length-drop, take-append-drop}
 use lib.Seq.{getD-drop}
 use borrow.Author.Tests.{lt-ltb}
-use Rattle.laws.specs.Digits.{value, digits, Bits}
+use Rattle.bits.specs.Digits.{value, digits, Bits}
 use Rattle.laws.specs.Emit.{iter}
-use Rattle.laws.proofs.Digitals.{bits-drop, value-take-below, digits-value-take}
+use Rattle.bits.proofs.Digitals.{bits-drop, value-take-below, digits-value-take}
 use Rattle.listing.specs.Number.{number, ringsOf}
 use Rattle.listing.specs.Sets.{Eight, Below8, asList, ofList}
 use Rattle.listing.proofs.Agree.{rings-below, number-of-rings}
-use Rattle.rings.proofs.Tests.{ofList-asList}
 use Rattle.frame.specs.declared.shape.Shape.{Shape}
 use Rattle.frame.specs.Shape.{frameLength}
-use Rattle.frame.specs.Writing.{Writing, frameStart, frameLabels, frameTurned}
+use Rattle.frame.specs.Writing.{Writing, frameStart, labelsWritten, turnWritten, frameRings, frameLabels, frameTurned}
 use Rattle.frame.specs.Reading.{afterRead, numberRead, bitsRead, frameRead, frameReadTurned, inRange, numberFits, stepsFit}
-use Rattle.frame.proofs.Chain.{RingsBelow, reading, Left, SymbolsWritten, four-symbols, symbols-written}
+use Rattle.frame.proofs.InTurn.{RingsBelow, reading, ToWrite, SymbolsWritten, four-symbols, symbols-written}
 
 -- the eight rings of a set, one after the other
-rings-listed : (M : ℕ) (x : Eight) → Below8 M x → RingsBelow M (asList x)
+pub rings-listed : (M : ℕ) (x : Eight) → Below8 M x → RingsBelow M (asList x)
 rings-listed M x b = (b .0 .0 .0, (b .0 .0 .1, (b .0 .1 .0, (b .0 .1 .1, (b .1 .0 .0, (b .1 .0 .1, (b .1 .1 .0, (b .1 .1 .1, tt))))))))
 
 -- Z after four symbols is the fifteenth label
@@ -49,7 +48,7 @@ module _ (M : ℕ) (shape : Shape) (z : ℕ) (bits : List ℕ) where
   S = value (take (shape .shell) bits)
 
   abbrev start : Writing
-  start = frameStart M shape z bits
+  start = frameStart shape (frameRings M shape bits) z bits
 
   abbrev labels : List ℕ
   labels = frameLabels M shape z bits
@@ -65,7 +64,7 @@ module _ (M : ℕ) (shape : Shape) (z : ℕ) (bits : List ℕ) where
       S-room = lt-of-lt-of-le S-below room
 
       -- four symbols are left after S
-      left : Left M q 4 start
+      left : ToWrite M q 4 start
       unfolding frameStart frameLength
       left =
           record {
@@ -77,15 +76,15 @@ module _ (M : ℕ) (shape : Shape) (z : ℕ) (bits : List ℕ) where
           }
 
       symbols : SymbolsWritten M q 4 start labels
-      unfolding frameLabels
+      unfolding labelsWritten frameLabels
       symbols = symbols-written M q 4 start left
 
       -- the rings that are read are those of S, so their number is S
       number-is : numberRead M shape labels ≡ S
-      unfolding numberRead frameStart
+      unfolding numberRead frameStart ofList
       number-is =
           ap (λ (l : List ℕ). number M (ofList l)) (symbols .rings)
-          ∙ (ap (number M) (ofList-asList (ringsOf M S)) ∙ number-of-rings M S S-room)
+          ∙ number-of-rings M S S-room
 
       -- its bits are those that S was
       shell-back : digits (shape .shell) (numberRead M shape labels) ≡ take (shape .shell) bits
@@ -93,7 +92,7 @@ module _ (M : ℕ) (shape : Shape) (z : ℕ) (bits : List ℕ) where
       shell-back = rw number-is (digits-value-take (shape .shell) bits (omega (arith, size)) binary)
 
       pub written : Written M shape z bits (frameLabels M shape z bits)
-      unfolding numberFits frameRead bitsRead frameTurned frameStart
+      unfolding numberFits frameRead bitsRead turnWritten frameTurned frameStart
       written =
           record {
             sixteen = symbols .size;

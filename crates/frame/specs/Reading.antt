@@ -5,17 +5,15 @@
 --     12    the Z step gives I3 = 1 where the symbol carries none
 --
 -- A 2D label is a ring and q bits: ring = label / 2^q, and the bits are the rest. The Z step I2 + 2·I3 is Z less the Z before, modulo 4.
-use mathlib.Core.Bool.{Bool, true, cond, not, _&&_, _||_}
+use mathlib.Core.Bool.{Bool, true, cond, _&&_, _||_}
 use mathlib.Core.List.{List, [], _∷_, _++_}
-use mathlib.Core.Path.{_≡_}
-use Prim.Native.Nat.{ℕ, zero, suc, _+_, _*_, _-_, _/_, _%_, _^_, _≤_, _<_}
-use lib.Dec.{leb, ltb, eqb}
-use lib.ListN.{length, getD, drop}
-use Rattle.laws.specs.Digits.{digits}
-use Rattle.laws.specs.Emit.{emit, iter}
+use Prim.Native.Nat.{ℕ, zero, suc, _+_, _*_, _-_, _/_, _%_, _^_}
+use lib.Dec.{leb, ltb}
+use lib.ListN.{getD, drop}
+use Rattle.bits.specs.Digits.{digits}
+use Rattle.laws.specs.Emit.{emit}
 use Rattle.listing.specs.Number.{number}
 use Rattle.listing.specs.Sets.{ofList}
-use Rattle.frame.specs.Shape.{frameLength}
 use Rattle.frame.specs.declared.shape.Shape.{Shape}
 use Rattle.frame.specs.declared.symbol.Symbol.{Symbol}
 
@@ -95,33 +93,3 @@ unfoldable pub stepsFit : ℕ → ℕ → ℕ → List ℕ → Bool
 stepsFit threes z zero labels = true
 stepsFit threes z (suc k) labels =
     (ltb 0 threes || ltb ((getD labels 2 0 + 4 - z) % 4) 2) && stepsFit (threes - 1) (getD labels 2 0) k (drop 4 labels)
-
--- what has to hold where the eight rings are taken out of sixteen labels: each fits a byte
-pub record RingsFit (q : ℕ) (labels : List ℕ) : Type 0 where
-  pub uncoded : q ≤ 5
-  pub sixteen : length labels ≡ 16
-  pub small : (i : ℕ) → i < 8 → getD (ringsRead q 4 labels) i 0 < 256
-
--- what has to hold where their number is looked for: sixteen labels in their ranges
-pub record Numbered (M : ℕ) (shape : Shape) (labels : List ℕ) : Type 0 where
-  pub uncoded : shape .uncoded ≤ 5
-  pub sixteen : length labels ≡ 16
-  pub ranges : inRange M (shape .uncoded) 4 labels ≡ true
-
--- what has to hold where the steps of Z are looked at: sixteen labels, and no Z above 3
-pub record Stepped (z : ℕ) (labels : List ℕ) : Type 0 where
-  pub turn : z ≤ 3
-  pub sixteen : length labels ≡ 16
-  pub turns : (j : ℕ) → j < 4 → getD labels (4 * j + 2) 0 ≤ 3
-
--- what has to hold where a frame is read: sixteen labels in the ranges of an M, the number of their rings, and room for the frame's bits
-pub record Readable (shape : Shape) (number z : ℕ) (labels bits : List ℕ) : Type 0 where
-  pub M : ℕ
-  pub few : shape .shell ≤ 31
-  pub threes : shape .threes ≤ 4
-  pub uncoded : shape .uncoded ≤ 5
-  pub turn : z ≤ 3
-  pub sixteen : length labels ≡ 16
-  pub ranges : inRange M (shape .uncoded) 4 labels ≡ true
-  pub ranked : number ≡ numberRead M shape labels
-  pub size : length bits ≡ frameLength shape

@@ -9,9 +9,8 @@
 --     12   0    0    high    12     0      4
 --     12   0    0    low     11     0      3
 --     8    0    0    high    8      0      0
-use mathlib.Core.Bool.{Bool, false, cond}
-use mathlib.Core.Path.{_≡_}
-use Prim.Native.Nat.{ℕ, _+_, _*_, _-_, _≤_, _<_}
+use mathlib.Core.Bool.{Bool, cond}
+use Prim.Native.Nat.{ℕ, _+_, _*_, _-_}
 use lib.Dec.{leb}
 use Rattle.line.specs.declared.settings.Settings.{Settings}
 use Rattle.frame.specs.declared.shape.Shape.{Shape}
@@ -26,11 +25,6 @@ shapeOf c high =
     cond (leb b 12)
     (record { shell = 0; threes = lengthOf b high - 8; uncoded = 0 })
     (record { shell = cond high (c .shell) (c .shell - 1); threes = 4; uncoded = c .uncoded })
-
--- what has to hold of a line where its shape is worked out: a frame without S has eight bits, and a low one with S a bit of S to lose
-pub record Shaped (c : Settings) (high : Bool) : Type 0 where
-  pub plain : c .high ≤ 12 → 8 ≤ lengthOf (c .high) high
-  pub shells : 12 < c .high → high ≡ false → 1 ≤ c .shell
 
 -- the bits of a 4D symbol, and of a frame
 abbrev pub symbolLength : ℕ → Bool → ℕ

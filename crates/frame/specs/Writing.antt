@@ -5,17 +5,16 @@
 --     I1 = 1, I2 = 0, I3 = 1, then 1 and 0     2·2 + 1 = 5, 2·0 + 0 = 0, Z = (3 + 0 + 2) mod 4 = 1, I1 = 1
 use mathlib.Core.Bool.{Bool, cond}
 use mathlib.Core.List.{List, [], _∷_}
-use mathlib.Core.Path.{_≡_}
-use Prim.Native.Nat.{ℕ, _+_, _*_, _-_, _%_, _^_, _≤_}
+use Prim.Native.Nat.{ℕ, _+_, _*_, _-_, _%_, _^_}
 use lib.Dec.{ltb}
-use lib.ListN.{length, getD, take, drop}
-use Rattle.laws.specs.Digits.{value, Bits}
+use lib.ListN.{getD, take, drop}
+use Rattle.bits.specs.Digits.{value}
 use Rattle.laws.specs.Emit.{emit, iter}
 use Rattle.listing.specs.Number.{ringsOf}
 use Rattle.listing.specs.Sets.{asList}
 use Rattle.frame.specs.declared.shape.Shape.{Shape}
 use Rattle.frame.specs.declared.symbol.Symbol.{Symbol}
-use Rattle.frame.specs.Shape.{symbolLength, frameLength}
+use Rattle.frame.specs.Shape.{symbolLength}
 
 -- a 4D symbol out of the bits at the head of a list; `three` says whether it carries I3
 unfoldable pub symbolOf : ℕ → Bool → List ℕ → Symbol
@@ -66,31 +65,25 @@ afterSymbol q w =
       z = turned (w .z) (nextSymbol q w);
     }
 
--- a frame at its start: S is taken off the bits, and gives the rings
-unfoldable pub frameStart : ℕ → Shape → ℕ → List ℕ → Writing
-frameStart M shape z bits =
-    record {
-      bits = drop (shape .shell) bits;
-      rings = asList (ringsOf M (value (take (shape .shell) bits)));
-      threes = shape .threes;
-      z = z;
-    }
+-- a frame at its start, its rings being known: the bits of S are passed over
+unfoldable pub frameStart : Shape → List ℕ → ℕ → List ℕ → Writing
+frameStart shape rings z bits = record { bits = drop (shape .shell) bits; rings = rings; threes = shape .threes; z = z }
+
+-- the sixteen labels of a frame whose rings are known, and Z after it
+unfoldable pub labelsWritten : Shape → List ℕ → ℕ → List ℕ → List ℕ
+labelsWritten shape rings z bits =
+    emit (symbolLabels (shape .uncoded)) (afterSymbol (shape .uncoded)) 4 (frameStart shape rings z bits)
+
+unfoldable pub turnWritten : Shape → List ℕ → ℕ → List ℕ → ℕ
+turnWritten shape rings z bits = iter (afterSymbol (shape .uncoded)) 4 (frameStart shape rings z bits) .z
+
+-- the rings of a frame: those of S, the number that its first bits are (clause 9.4)
+abbrev pub frameRings : ℕ → Shape → List ℕ → List ℕ
+frameRings M shape bits = asList (ringsOf M (value (take (shape .shell) bits)))
 
 -- the sixteen labels of a frame, and Z after it
 unfoldable pub frameLabels : ℕ → Shape → ℕ → List ℕ → List ℕ
-frameLabels M shape z bits = emit (symbolLabels (shape .uncoded)) (afterSymbol (shape .uncoded)) 4 (frameStart M shape z bits)
+frameLabels M shape z bits = labelsWritten shape (frameRings M shape bits) z bits
 
 unfoldable pub frameTurned : ℕ → Shape → ℕ → List ℕ → ℕ
-frameTurned M shape z bits = iter (afterSymbol (shape .uncoded)) 4 (frameStart M shape z bits) .z
-
--- what has to hold where a frame is written: S has room among the M^8 sets, the bits are bits and as many as the frame has, and sixteen
--- labels are lent
-pub record Writable (M : ℕ) (shape : Shape) (z : ℕ) (bits out : List ℕ) : Type 0 where
-  pub few : shape .shell ≤ 31
-  pub room : 2 ^ shape .shell ≤ M ^ 8
-  pub threes : shape .threes ≤ 4
-  pub uncoded : shape .uncoded ≤ 5
-  pub turn : z ≤ 3
-  pub binary : Bits bits
-  pub size : length bits ≡ frameLength shape
-  pub sixteen : length out ≡ 16
+frameTurned M shape z bits = turnWritten shape (frameRings M shape bits) z bits

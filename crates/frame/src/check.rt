@@ -4,9 +4,10 @@ ghost use mathlib.Core.Path.{_≡_};
 ghost use Prim.Native.Nat.{_+_, _≤_};
 ghost use lib.Dec.{ltb};
 ghost use lib.ListN.{length};
-ghost use Rattle.frame.specs.Reading.{inRange, inRangeAt, shellHolds, stepsFit, Stepped};
+ghost use Rattle.frame.specs.Reading.{inRange, inRangeAt, shellHolds, stepsFit};
+ghost use Rattle.frame.specs.Requires.{Stepped};
 use crate::read::label_at;
-use crate::read::step_of;
+use crate::read::z_step;
 use crate::shape::Shape;
 
 // Whether the four labels from `at` on are in their ranges, `top` being M·2^q.
@@ -69,7 +70,7 @@ pub fn steps_fit(threes: usize, z: u64, labels: &[u16]) -> bool
     let mut j = 0;
     while j < 4 {
         let next = label_at(labels, 4 * j + 2);
-        if !step_fits(j < threes, step_of(turned, next)) {
+        if !step_fits(j < threes, z_step(turned, next)) {
             return false;
         }
         turned = next;

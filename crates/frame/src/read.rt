@@ -1,18 +1,17 @@
 // Reading one mapping frame.
 ghost use mathlib.Core.Bool.{cond};
-ghost use mathlib.Core.List.{[], _∷_, _++_};
+ghost use mathlib.Core.List.{[], _∷_};
 ghost use mathlib.Core.Path.{_≡_};
 ghost use Prim.Native.Nat.{_+_, _-_, _/_, _%_, _^_, _≤_, _<_};
-ghost use lib.ListN.{length, getD, take, drop};
-ghost use Rattle.rings.specs.Counts.{Rows};
-ghost use Rattle.frame.specs.Reading.{symbolRead, symbolBits, ringsRead, numberRead, bitsRead, frameReadTurned, RingsFit, Numbered, Readable};
+ghost use lib.ListN.{length, getD, drop};
+ghost use Rattle.laws.specs.Put.{Put};
+ghost use Rattle.frame.specs.Reading.{symbolRead, symbolBits, ringsRead, bitsRead, frameReadTurned};
+ghost use Rattle.frame.specs.Requires.{RingsFit, Readable};
 ghost use Rattle.frame.specs.Shape.{symbolLength};
-use crate::bits::put_bit;
-use crate::bits::put_digits;
 use crate::shape::Shape;
 use crate::symbol::Symbol;
-use rings::Rings;
-use rings::number_of;
+use bits::put_bit;
+use bits::put_digits;
 
 // The label at `at`.
 pub fn label_at(labels: &[u16], at: usize) -> u64
@@ -31,43 +30,24 @@ fn ring_at(q: usize, labels: &[u16], at: usize) -> u8
 }
 
 // The eight rings of sixteen labels: two for each symbol.
-fn rings_read(q: usize, labels: &[u16]) -> Rings
+pub fn rings_read(q: usize, labels: &[u16]) -> [u8; 8]
     requires { ⌜ RingsFit q (now labels) ⌝ }
-    ensures { λ r. ⌜ r .ring ≡ ringsRead q 4 (now (labels .entry)) ⌝ }
+    ensures { λ r. ⌜ r ≡ ringsRead q 4 (now (labels .entry)) ⌝ }
 {
-    Rings {
-        ring: [
-            ring_at(q, labels, 0),
-            ring_at(q, labels, 1),
-            ring_at(q, labels, 4),
-            ring_at(q, labels, 5),
-            ring_at(q, labels, 8),
-            ring_at(q, labels, 9),
-            ring_at(q, labels, 12),
-            ring_at(q, labels, 13),
-        ],
-    }
-}
-
-// Their number.
-pub fn number_read<'a>(
-    m: u64,
-    pairs: &'a [u64; 69],
-    fours: &'a [u64; 137],
-    lighter: &'a [u64; 137],
-    shape: Shape,
-    labels: &[u16],
-) -> u64
-    requires { ⌜ Rows m (now pairs) (now fours) (now lighter) ⌝ }
-    requires { ⌜ Numbered m shape (now labels) ⌝ }
-    ensures { λ r. ⌜ r ≡ numberRead m shape (now (labels .entry)) ⌝ }
-{
-    let rings = rings_read(shape.uncoded, labels);
-    number_of(m, pairs, fours, lighter, rings)
+    [
+        ring_at(q, labels, 0),
+        ring_at(q, labels, 1),
+        ring_at(q, labels, 4),
+        ring_at(q, labels, 5),
+        ring_at(q, labels, 8),
+        ring_at(q, labels, 9),
+        ring_at(q, labels, 12),
+        ring_at(q, labels, 13),
+    ]
 }
 
 // The step from one Z to the next: I2 + 2·I3.
-pub fn step_of(z: u64, next: u64) -> u64
+pub fn z_step(z: u64, next: u64) -> u64
     requires { ⌜ (z ≤ 3) × (next ≤ 3) ⌝ }
     ensures { λ r. ⌜ r ≡ (next + 4 - z) % 4 ⌝ }
 {
@@ -79,7 +59,7 @@ fn symbol_read(q: usize, z: u64, labels: &[u16], at: usize) -> Symbol
     requires { ⌜ (at + 4 ≤ length (now labels)) × (q ≤ 5) × (z ≤ 3) × (getD (now labels) (at + 2) 0 ≤ 3) ⌝ }
     ensures { λ r. ⌜ r ≡ symbolRead q z (drop at (now (labels .entry))) ⌝ }
 {
-    let step = step_of(z, label_at(labels, at + 2));
+    let step = z_step(z, label_at(labels, at + 2));
     let scale = 1u64 << q;
     Symbol {
         i1: label_at(labels, at + 3),
@@ -93,7 +73,7 @@ fn symbol_read(q: usize, z: u64, labels: &[u16], at: usize) -> Symbol
 // I3, where the symbol carries it. It answers the position after it.
 fn put_third(x: u64, three: bool, bits: &mut [u8], at: usize) -> usize
     requires { ⌜ (x ≤ 1) × (at + cond three 1 0 ≤ length (now bits)) ⌝ }
-    ensures { λ r. ⌜ (now (bits .exit) ≡ take at (now (bits .entry)) ++ (cond three (x ∷ []) [] ++ drop (at + cond three 1 0) (now (bits .entry)))) × (r ≡ at + cond three 1 0) ⌝ }
+    ensures { λ r. ⌜ Put (cond three (x ∷ []) []) (now (bits .entry)) (now (bits .exit)) at r ⌝ }
 {
     if three {
         put_bit(x, bits, at);
@@ -105,7 +85,7 @@ fn put_third(x: u64, three: bool, bits: &mut [u8], at: usize) -> usize
 // The bits of a symbol, from `at` on. It answers the position after them.
 fn put_symbol(symbol: Symbol, q: usize, three: bool, bits: &mut [u8], at: usize) -> usize
     requires { ⌜ (symbol .i1 ≤ 1) × (symbol .i2 ≤ 1) × (symbol .i3 ≤ 1) × (at + symbolLength q three ≤ length (now bits)) ⌝ }
-    ensures { λ r. ⌜ (now (bits .exit) ≡ take at (now (bits .entry)) ++ (symbolBits q three symbol ++ drop (at + symbolLength q three) (now (bits .entry)))) × (r ≡ at + symbolLength q three) ⌝ }
+    ensures { λ r. ⌜ Put (symbolBits q three symbol) (now (bits .entry)) (now (bits .exit)) at r ⌝ }
 {
     put_bit(symbol.i1, bits, at);
     put_bit(symbol.i2, bits, at + 1);

@@ -1,8 +1,10 @@
-// How many bits of a frame go where.
+// How many bits of a frame go where, and room for them.
 ghost use mathlib.Core.Bool.{false};
 ghost use mathlib.Core.Path.{_≡_};
 ghost use Prim.Native.Nat.{_≤_};
-ghost use Rattle.frame.specs.Shape.{lengthOf, shapeOf, Shaped};
+ghost use lib.ListN.{length};
+ghost use Rattle.frame.specs.Requires.{Shaped};
+ghost use Rattle.frame.specs.Shape.{lengthOf, shapeOf};
 use line::Settings;
 
 pub struct Shape {
@@ -11,7 +13,7 @@ pub struct Shape {
     pub uncoded: usize,
 }
 
-// One less in a low frame.
+// How many of b bits a frame has: one less where it is low.
 fn length_of(b: u64, high: bool) -> u64
     requires { ⌜ (high ≡ false → 1 ≤ b) ⌝ }
     ensures { λ r. ⌜ r ≡ lengthOf b high ⌝ }
@@ -39,4 +41,11 @@ pub fn shape_of(c: Settings, high: bool) -> Shape
         threes: 4,
         uncoded: c.uncoded as usize,
     }
+}
+
+// Room for the bits of any mapping frame: b is at most 79.
+pub fn room() -> [u8; 80]
+    ensures { λ r. ⌜ length r ≡ 80 ⌝ }
+{
+    [0; 80]
 }

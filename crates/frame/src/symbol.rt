@@ -3,10 +3,10 @@ ghost use mathlib.Core.Bool.{cond};
 ghost use mathlib.Core.Path.{_≡_};
 ghost use Prim.Native.Nat.{_+_, _≤_};
 ghost use lib.ListN.{length, getD, drop};
-ghost use Rattle.laws.specs.Digits.{Bits};
+ghost use Rattle.bits.specs.Digits.{Bits};
 ghost use Rattle.frame.specs.Shape.{symbolLength};
 ghost use Rattle.frame.specs.Writing.{symbolOf, turned};
-use crate::bits::value_at;
+use bits::value_at;
 
 // I1, I2, I3, and the q bits of the first and of the second 2D symbol, as numbers.
 pub struct Symbol {

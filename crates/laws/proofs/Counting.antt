@@ -4,13 +4,13 @@
 use mathlib.Core.Bool.{Bool, true, false, cond, _&&_}
 use mathlib.Core.List.{List, [], _∷_, _++_, map}
 use mathlib.Core.Logic.{⊎-elim}
-use mathlib.Core.Path.{_≡_, refl, sym, subst, ap, ap₂, _∙_}
-use Prim.Native.Nat.{ℕ, zero, suc, _+_, _*_, _^_, _≤_, _<_}
-use native.Mathlib.Nat.{suc-mul, zero-mul, zero-add, add-zero, suc-add}
+use mathlib.Core.Path.{_≡_, refl, sym, ap, ap₂, _∙_}
+use Prim.Native.Nat.{ℕ, zero, suc, _+_, _*_, _≤_, _<_}
+use native.Mathlib.Nat.{suc-mul, zero-mul, zero-add}
 use native.Mathlib.Omega.{arith}
 use lib.Dec.{ltb, eqb}
-use lib.ListN.{length, length-append, length-map}
-use borrow.Author.Tests.{ltb-true, ltb-false, eqb-true, eqb-false, lt-ltb, le-ltb, eq-eqb, ne-eqb}
+use lib.ListN.{length, getD, length-append, length-map}
+use borrow.Author.Tests.{ltb-true, ltb-false, eqb-true, eqb-false, le-ltb, ne-eqb}
 use Rattle.laws.specs.Lists.{upTo, product, count, Every}
 use Rattle.laws.proofs.Largests.{tri}
 
@@ -66,6 +66,12 @@ module _ {X : Type 0} where
   pub every-imp : (P Q : X → Type 0) → ((x : X) → P x → Q x) → (xs : List X) → Every P xs → Every Q xs
   every-imp P Q h [] a = tt
   every-imp P Q h (x ∷ xs) a = (h x (a .0), every-imp P Q h xs (a .1))
+
+  -- and what holds at each place; beyond the end stands d
+  pub every-at : (P : X → Type 0) (d : X) → P d → (xs : List X) → Every P xs → (i : ℕ) → P (getD xs i d)
+  every-at P d h [] a i = h
+  every-at P d h (x ∷ xs) a zero = a .0
+  every-at P d h (x ∷ xs) a (suc i) = every-at P d h xs (a .1) i
 
   -- one more number: those below s, and those that are s
   count-split :
@@ -149,7 +155,8 @@ module _ {X Y : Type 0} where
   unfolding product
   every-product P Q [] ys a b = tt
   every-product P Q (x ∷ xs) ys a b =
-      every-append (λ (z : X × Y). P (z .0) × Q (z .1)) (map (λ y. (x, y)) ys) (product xs ys) (head ys b) (every-product P Q xs ys (a .1) b)
+      every-append (λ (z : X × Y). P (z .0) × Q (z .1)) (map (λ y. (x, y)) ys) (product xs ys) (head ys b)
+      (every-product P Q xs ys (a .1) b)
     where
       head : (ys : List Y) → Every Q ys → Every (λ (z : X × Y). P (z .0) × Q (z .1)) (map (λ y. (x, y)) ys)
       head [] b = tt
@@ -172,7 +179,9 @@ module _ {X Y : Type 0} where
           both false = refl
       head (y ∷ ys) = ap (λ (n : ℕ). cond (p x && q y) (suc n) n) (head ys) ∙ both (p x) (q y)
         where
-          both : (v w : Bool) → cond (v && w) (suc (cond v (count q ys) 0)) (cond v (count q ys) 0) ≡ cond v (cond w (suc (count q ys)) (count q ys)) 0
+          both :
+              (v w : Bool)
+              → cond (v && w) (suc (cond v (count q ys) 0)) (cond v (count q ys) 0) ≡ cond v (cond w (suc (count q ys)) (count q ys)) 0
           both true w = refl
           both false w = refl
 

@@ -1,50 +1,15 @@
--- Laws of `emit` and `iter`, and a buffer that is filled part by part: what is done and what is left make the whole. A part is
--- stored by a run of single stores, or by a loan of its place that comes back; either way the buffer is `put`. Parts may differ in
+-- Laws of `emit` and `iter`, and a buffer that is filled part by part: what is done and what is left make the whole. Parts may differ in
 -- length, and a front may stand before them. Assumes nothing.
---
---     put 2 (7, 8) (0, 1, 2, 3, 4)     0, 1, 7, 8, 4
 use mathlib.Core.List.{List, [], _++_, append-assoc, append-nil}
 use mathlib.Core.Path.{_≡_, refl, sym, ap, _∙_}
 use Prim.Native.Nat.{ℕ, zero, suc, _+_, _*_, _-_, _≤_, _<_}
 use native.Mathlib.Nat.{sub-zero, suc-mul}
 use native.Mathlib.Omega.{arith}
-use lib.ListN.{length, take, drop, length-append, length-drop}
-use lib.Seq.{length-take-le, take-at, take-all, drop-drop, sets, sets-eq}
-use borrow.Rule.Slice.PartMut.{putMid}
+use lib.ListN.{length, take, length-append}
+use lib.Seq.{length-take-le, take-all}
 use Rattle.laws.specs.Emit.{emit, iter}
-
--- the part in its place in a buffer
-abbrev pub put : ℕ → List ℕ → List ℕ → List ℕ
-put at part buf = take at buf ++ (part ++ drop (at + length part) buf)
-
--- stored one number after the other
-pub put-by-stores : (at : ℕ) (part buf : List ℕ) → at + length part ≤ length buf → sets buf at part ≡ put at part buf
-put-by-stores at part buf h = sets-eq part buf at h ∙ append-assoc (take at buf) part (drop (at + length part) buf)
-
--- stored through a loan of `end − at` numbers
-pub put-by-loan :
-    (at end : ℕ) (part buf : List ℕ) → end ≡ at + length part → putMid at (end - at) buf part ≡ put at part buf
-put-by-loan at end part buf h =
-    let same : at + (end - at) ≡ at + length part = omega arith in
-    ap (λ (rest : List ℕ). take at buf ++ (part ++ rest)) (drop-drop (end - at) at buf ∙ ap (λ (n : ℕ). drop n buf) same)
-
-module _ (at : ℕ) (part buf : List ℕ) (room : at + length part ≤ length buf) where
-  front-length : length (take at buf ++ part) ≡ at + length part
-  front-length = length-append (take at buf) part ∙ ap (λ (n : ℕ). n + length part) (length-take-le at buf (omega arith))
-
-  regroup : put at part buf ≡ (take at buf ++ part) ++ drop (at + length part) buf
-  regroup = sym (append-assoc (take at buf) part (drop (at + length part) buf))
-
-  -- the buffer keeps its length
-  pub length-put : length (put at part buf) ≡ length buf
-  length-put =
-      ap length regroup
-      ∙ length-append (take at buf ++ part) (drop (at + length part) buf)
-      ∙ omega (arith, front-length, length-drop (at + length part) buf)
-
-  -- and as far as the part goes it is what it was, and then the part
-  pub take-put : take (at + length part) (put at part buf) ≡ take at buf ++ part
-  take-put = ap (take (at + length part)) regroup ∙ take-at (take at buf ++ part) _ (at + length part) front-length
+use Rattle.laws.specs.Put.{put}
+use Rattle.laws.proofs.Puts.{length-put, take-put}
 
 module _ {S : Type 0} (next : S → S) where
   -- steps are taken one run after the other
@@ -69,7 +34,8 @@ module _ {S : Type 0} (out : S → List ℕ) (next : S → S) where
   emit-length k each (suc n) s =
       length-append (out s) (emit out next n (next s)) ∙ omega (arith, each s, emit-length k each n (next s), suc-mul n k)
 
-  -- the buffer, which is as long as the whole, holds the whole as far as `at`: a front, and i parts out of `total`; those from s on are left
+  -- the buffer, which is as long as the whole, holds the whole as far as `at`: a front, and i parts out of `total`; those from s on are
+  -- left
   pub record Filling (front : List ℕ) (total : ℕ) (s₀ : S) (i : ℕ) (s : S) (buf : List ℕ) (at : ℕ) : Type 0 where
     pub upTo : i ≤ total
     pub within : at ≤ length buf
@@ -119,12 +85,12 @@ module _ {S : Type 0} {out : S → List ℕ} {next : S → S} {front : List ℕ}
         (part after : List ℕ) (end : ℕ)
         → part ≡ out s
         → end ≡ at + length part
-        → after ≡ put at part buf
+        → after ≡ put buf at part
         → Filling out next front total s₀ (i + 1) (next s) after end
     filling-more part after end is-out is-end is-put =
         let room : at + length part ≤ length buf = rw is-out part-room in
-        let size : length after ≡ length buf = ap length is-put ∙ length-put at part buf room in
-        let done : take end after ≡ take at buf ++ part = rw (is-end, is-put) (take-put at part buf room) in
+        let size : length after ≡ length buf = ap length is-put ∙ length-put buf at part (f .within) room in
+        let done : take end after ≡ take at buf ++ part = rw (is-end, is-put) (take-put buf at part (f .within)) in
         let rest = emit out next (total - (i + 1)) (next s) in
         record {
           upTo = omega arith;

@@ -10,10 +10,8 @@
 --     Orders      the packing law: F b + r compares as b, then as r
 --     Convolution  lists of values, of sums over two places and of running sums
 --     Counting    if each number is hit once, as many items are below s as s says
---     Puts        a text put behind a text
---     Digitals    numbers and their bits undo each other
+--     Puts        a part put in a buffer: by a store, by a loan, behind a part
 --     Emits       lists made part by part, and a buffer that is filled with them
---     Positions   a part of a list put in place
 pub mod Bools
 pub mod Choices
 pub mod Sums
@@ -26,6 +24,4 @@ pub mod Powers
 pub mod Orders
 pub mod Counting
 pub mod Puts
-pub mod Digitals
 pub mod Emits
-pub mod Positions

@@ -5,8 +5,7 @@
 --     Lists     the numbers below n, all pairs out of two lists, how many of a list pass a test, what holds of each
 --     Order     two lists of numbers compared by the first place at which they differ
 --     Choice    the first refusal whose test holds
---     Put       a text put into a buffer at a place
---     Digits    whole numbers as bits, lowest weight first
+--     Put       a part put into a buffer at a place
 --     Emit      lists that are made part by part
 pub mod Sum
 pub mod Largest
@@ -15,5 +14,4 @@ pub mod Lists
 pub mod Order
 pub mod Choice
 pub mod Put
-pub mod Digits
 pub mod Emit

@@ -26,12 +26,15 @@ pub minimum-is : (K : ℕ) → K < 32 → Minimum K (minimumOf K)
 unfolding minimumOf
 minimum-is K h =
     record {
-      enough = leb-true (2 ^ K) _ (smallest-passes test 18 (le-leb (2 ^ K) (18 ^ 8) (omega (arith, pow-mono {i = K} {j = 31} (omega arith)))));
+      enough = leb-true (2 ^ K) _ (smallest-passes test 18 (le-leb (2 ^ K) (18 ^ 8) below));
       least = λ m l. leb-false (2 ^ K) (m ^ 8) (below-smallest test 18 m l);
     }
   where
     test : ℕ → Bool
     test M = leb (2 ^ K) (M ^ 8)
+
+    below : 2 ^ K ≤ 18 ^ 8
+    below = omega (arith, pow-mono {i = K} {j = 31} (omega arith))
 
 minimum-most : (K : ℕ) → minimumOf K ≤ 18
 unfolding minimumOf

@@ -14,7 +14,7 @@ use Rattle.line.specs.declared.rate.SymbolRate.{SymbolRate}
 use Rattle.line.specs.declared.rate.Rate.{Rate}
 use Rattle.line.specs.declared.rate.Rate.the-variants.{Known, Unknown}
 use Rattle.line.specs.Rates.{rates, rowOf, symbolRate}
-use Rattle.line.specs.Settings.{InRange}
+use Rattle.line.specs.Requires.{InRange}
 
 past-rows : (rows : List SymbolRate) (s : ℕ) → length rows ≤ s → rowOf rows s ≡ Unknown
 unfolding rowOf

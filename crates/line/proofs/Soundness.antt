@@ -6,8 +6,10 @@ use Prim.Native.Nat.{ℕ, zero, suc, _+_, _*_, _-_, _^_, _≤_, _<_}
 use native.Mathlib.Omega.{arith}
 use lib.Dec.{leb}
 use borrow.Author.Tests.{leb-true, leb-false, le-ltb, lt-leb}
+use Rattle.laws.specs.Lists.{Every}
 use Rattle.laws.specs.Smallest.{smallest}
 use Rattle.laws.proofs.Tables.{passesBelow, at-each}
+use Rattle.line.specs.declared.asked.Asked.{Asked}
 use Rattle.line.specs.declared.rate.SymbolRate.{SymbolRate}
 use Rattle.line.specs.declared.rate.Rate.{Rate}
 use Rattle.line.specs.declared.rate.Rate.the-variants.{Known, Unknown}
@@ -15,17 +17,19 @@ use Rattle.line.specs.declared.settings.Settings.{Settings}
 use Rattle.line.specs.declared.settings.Worked.the-variants.{Accepted}
 use Rattle.line.specs.Rates.{symbolRate, rowOf}
 use Rattle.line.specs.Numbers.{bitsOf, highOf, stepOf, uncodedOf, shellOf, minimumOf, nearestOf, expandedOf, pointsOf}
-use Rattle.line.specs.Settings.{outside, shapingOf, ringsOfShaping, settingsOf, workedOf}
+use Rattle.line.specs.Settings.{outside, shapingOf, ringsOfShaping, settingsOf, workedOf, valuesOf}
 use Rattle.line.specs.Switching.{counterAt, frameBits}
 use Rattle.line.proofs.Acceptance.{Within, Right, accepted-when, right-unrefused, unrefused-is, known-accepted}
 use Rattle.line.proofs.Divisions.{divided, bits-least, uncoded-is, shell-is, shell-below}
-use Rattle.line.proofs.Frames.{DataFrame, data-frame}
+use Rattle.line.proofs.DataFrames.{DataFrame, data-frame}
 use Rattle.line.proofs.Rings.{Permitted, rings-permitted}
 use Rattle.line.proofs.Rows.{onKnown, known-below, in-range}
 
 pub record Sound (c : Settings) : Type 0 where
   pub end : c .role ≤ 1
   pub bits-most : c .bits ≤ 1248
+  -- all N bits are the user's
+  pub user-is : c .user ≡ c .bits
   pub frames-least : 12 ≤ c .frames
   pub frames-most : c .frames ≤ 16
   -- b, the smallest with b·P at least N, is 8 to 79
@@ -51,22 +55,21 @@ pub record Sound (c : Settings) : Type 0 where
   pub labels : ringsOfShaping (c .shaping) * 2 ^ c .uncoded ≤ 416
 
 -- a test computed at each n in the range of each rate
+abbrev pub atPair : (SymbolRate → ℕ → Bool) → ℕ → ℕ → Bool
+atPair test s n = outside (symbolRate s) n || onKnown (λ rate. test rate n) (symbolRate s)
+
 abbrev pub atEachPair : (SymbolRate → ℕ → Bool) → Bool
-atEachPair test = passesBelow (λ s. passesBelow (λ n. outside (symbolRate s) n || onKnown (λ rate. test rate n) (symbolRate s)) 15) 6
+atEachPair test = passesBelow (λ s. passesBelow (atPair test s) 15) 6
 
 -- holds of every rate that s names and n in its range
 each-pair :
     (test : SymbolRate → ℕ → Bool) → atEachPair test ≡ true
     → (s n : ℕ) (rate : SymbolRate) → symbolRate s ≡ Known rate → rate .least ≤ n → n ≤ rate .most → n ≤ 14 → test rate n ≡ true
-each-pair test passes s n rate e from to few = sym chosen ∙ at-each inner 15 (at-each outer 6 passes s (known-below s rate e)) n (omega arith)
+each-pair test passes s n rate e from to few =
+    sym chosen
+    ∙ at-each (atPair test s) 15 (at-each (λ s. passesBelow (atPair test s) 15) 6 passes s (known-below s rate e)) n (omega arith)
   where
-    inner : ℕ → Bool
-    inner n = outside (symbolRate s) n || onKnown (λ rate. test rate n) (symbolRate s)
-
-    outer : ℕ → Bool
-    outer s = passesBelow (λ n. outside (symbolRate s) n || onKnown (λ rate. test rate n) (symbolRate s)) 15
-
-    chosen : inner n ≡ test rate n
+    chosen : atPair test s n ≡ test rate n
     chosen = rw (e, le-ltb n (rate .least) from, le-ltb (rate .most) n to)
 
 -- N, b, r of a rate and n; K, q and M of both shapings follow
@@ -93,7 +96,8 @@ record Tabled (rate : SymbolRate) (n : ℕ) : Type 0 where
 
 tabled :
     (s n : ℕ) (rate : SymbolRate) → symbolRate s ≡ Known rate → rate .least ≤ n → n ≤ rate .most → Tabled rate n
-unfolding passesBelow symbolRate rowOf bits high step labelsOf bitsOf highOf stepOf uncodedOf shellOf shapingOf minimumOf nearestOf expandedOf smallest
+unfolding passesBelow symbolRate rowOf bits high step labelsOf smallest
+    bitsOf highOf stepOf uncodedOf shellOf shapingOf minimumOf nearestOf expandedOf
 tabled s n rate e from to =
     record {
       bits-most = leb-true (bits rate n) 1248 (here (λ r k. leb (bits r k) 1248) refl);
@@ -118,18 +122,21 @@ either (suc (suc k)) P h a b = absurd (omega arith)
 
 -- the settings of a rate that s names and n in its range
 settings-sound :
-    (role s n shaping : ℕ) (rate : SymbolRate) → role ≤ 1 → shaping ≤ 1
-    → symbolRate s ≡ Known rate → rate .least ≤ n → n ≤ rate .most → Sound (settingsOf role rate n shaping)
+    (asked : Asked) (rate : SymbolRate) → asked .role ≤ 1 → asked .shaping ≤ 1
+    → symbolRate (asked .s) ≡ Known rate → rate .least ≤ asked .n → asked .n ≤ rate .most → Sound (settingsOf asked rate)
 unfolding settingsOf bits high step labelsOf pointsOf
-settings-sound role s n shaping rate end kind e from to =
-    let i = in-range s rate n e from to in
-    let t = tabled s n rate e from to in
+settings-sound asked rate end kind e from to =
+    let n = asked .n in
+    let i = in-range (asked .s) rate n e from to in
+    let t = tabled (asked .s) n rate e from to in
     let d = divided (bits rate n) (rate .p) (bits-least (rate .j) n (i .least)) (omega arith) in
-    let q = uncoded-is (high rate n) in
-    let k = shell-is (high rate n) in
+    let b = high rate n in
+    let q = uncoded-is b in
+    let k = shell-is b in
     record {
       end = end;
       bits-most = t .bits-most;
+      user-is = refl;
       frames-least = i .fewest;
       frames-most = i .fullest;
       holds = d .holds;
@@ -139,34 +146,61 @@ settings-sound role s n shaping rate end kind e from to =
       step-some = d .some;
       step-most = d .most;
       step-is = d .whole;
-      frame = data-frame (bits rate n) (rate .p) (high rate n) (step rate n) (d .some) (d .most) (omega (arith, t .high-least)) (omega (arith, d .whole));
+      frame =
+          data-frame (bits rate n) (rate .p) b (step rate n) (d .some) (d .most) (omega (arith, t .high-least)) (omega (arith, d .whole));
       low-least = t .low-least;
-      shell-most = omega (arith, shell-below (high rate n));
+      shell-most = omega (arith, shell-below b);
       uncoded-most = omega (arith, q, t .high-most);
       plain = λ h. (omega (arith, k), omega (arith, q));
       shaped = λ h. (omega (arith, k), omega (arith, q, k));
-      rings = rings-permitted shaping (shellOf (high rate n)) (shell-below (high rate n));
+      rings = rings-permitted (asked .shaping) (shellOf b) (shell-below b);
       points-are = refl;
-      labels = either shaping (λ v. labelsOf v rate n ≤ 416) kind (t .minimum-labels) (t .expanded-labels);
+      labels = either (asked .shaping) (λ v. labelsOf v rate n ≤ 416) kind (t .minimum-labels) (t .expanded-labels);
     }
 
--- all accepted settings are sound
-pub accepted-sound : (role s n shaping mark : ℕ) (c : Settings) → workedOf role s n shaping mark ≡ Accepted c → Sound c
-accepted-sound role s n shaping mark c e = go (symbolRate s) refl (right .range)
+-- n of right settings is at most 14
+pub rate-most : (asked : Asked) → Right asked → asked .n ≤ 14
+rate-most asked right = go (symbolRate (asked .s)) refl (right .range)
   where
-    right : Right role s n shaping mark
-    right = accepted-when role s n shaping mark .0 (c, e)
+    go : (rate : Rate) → symbolRate (asked .s) ≡ rate → Within rate (asked .n) → asked .n ≤ 14
+    go (Known rate) e w = in-range (asked .s) rate (asked .n) e (w .0) (w .1) .most
+    go Unknown e w = absurd w
 
-    go : (rate : Rate) → symbolRate s ≡ rate → Within rate n → Sound c
-    go (Known rate) f w =
-        subst Sound same (settings-sound role s n shaping rate (right .end) (right .kind) f (w .0) (w .1))
+-- all accepted settings are sound
+pub accepted-sound : (asked : Asked) (c : Settings) → workedOf asked ≡ Accepted c → Sound c
+accepted-sound asked c e = go (symbolRate (asked .s)) refl (right .range)
+  where
+    right : Right asked
+    right = accepted-when asked .0 (c, e)
+
+    go : (rate : Rate) → symbolRate (asked .s) ≡ rate → Within rate (asked .n) → Sound c
+    go (Known rate) f w = subst Sound same (settings-sound asked rate (right .end) (right .kind) f (w .0) (w .1))
       where
-        same : settingsOf role rate n shaping ≡ c
+        same : settingsOf asked rate ≡ c
         same =
-            let u = unrefused-is role s n shaping mark (right-unrefused role s n shaping mark right) in
-            let v = known-accepted role s n shaping rate f in
+            let u = unrefused-is asked (right-unrefused asked right) in
+            let v = known-accepted asked rate f in
             cc
     go Unknown f w = absurd w
+
+-- none of their values N P b r K q M L is above 1,664
+pub values-most : (c : Settings) → Sound c → Every (λ value. value ≤ 1664) (valuesOf (Accepted c))
+values-most c z = (
+  omega (arith, z .bits-most),
+  (
+    omega (arith, z .frames-most),
+    (
+      omega (arith, z .high-most),
+      (
+        omega (arith, z .step-most, z .frames-most),
+        (
+          omega (arith, z .shell-most),
+          (omega (arith, z .uncoded-most), (omega (arith, z .rings .most), (omega (arith, z .points-are, z .labels), tt))),
+        ),
+      ),
+    ),
+  ),
+)
 
 -- and no frame of theirs has fewer than 8 bits, or more than b
 pub frame-between :

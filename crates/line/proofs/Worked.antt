@@ -4,6 +4,7 @@ use mathlib.Core.Path.{_≡_, refl}
 use Rattle.laws.specs.Choice.{refusal}
 use Rattle.laws.specs.Lists.{Every}
 use Rattle.laws.specs.Smallest.{smallest}
+use Rattle.line.specs.Asked.{asked}
 use Rattle.line.specs.Rates.{symbolRate, rowOf}
 use Rattle.line.specs.Numbers.{bitsOf, highOf, stepOf, uncodedOf, shellOf, minimumOf, nearestOf, expandedOf, pointsOf}
 use Rattle.line.specs.Settings.{settingsRefusal, shapingOf, settingsOf, acceptedOf, workedOf, numberOf, valuesOf}
@@ -12,12 +13,11 @@ use Rattle.line.specs.Cases.{Case, cases, lengthsOf, switchingOfTwo, swi
 
 -- what is shown of a case
 abbrev pub Holds : Case → Type 0
-Holds c =
-    (numberOf (workedOf 0 (c .s) (c .n) (c .shaping) (c .mark)) ≡ c .number)
-    × (valuesOf (workedOf 0 (c .s) (c .n) (c .shaping) (c .mark)) ≡ c .values)
+Holds c = (numberOf (workedOf (c .asked)) ≡ c .number) × (valuesOf (workedOf (c .asked)) ≡ c .values)
 
 pub worked-cases : Every Holds cases
-unfolding workedOf acceptedOf settingsOf settingsRefusal refusal symbolRate rowOf bitsOf highOf stepOf uncodedOf shellOf shapingOf minimumOf nearestOf expandedOf pointsOf smallest
+unfolding workedOf acceptedOf settingsOf settingsRefusal refusal symbolRate rowOf smallest
+    bitsOf highOf stepOf uncodedOf shellOf shapingOf minimumOf nearestOf expandedOf pointsOf
 worked-cases = (
   (refl, refl),
   (
@@ -26,6 +26,8 @@ worked-cases = (
   ),
 )
 
-pub switching-cases : (lengthsOf (workedOf 0 5 2 0 0) ≡ switchingOfTwo) × (lengthsOf (workedOf 0 5 14 1 1) ≡ switchingOfFourteen)
-unfolding workedOf acceptedOf settingsOf settingsRefusal refusal symbolRate rowOf bitsOf highOf stepOf uncodedOf shellOf shapingOf minimumOf nearestOf expandedOf pointsOf smallest lengthsOf frameLengths frameBits counterAfter
+pub switching-cases :
+    (lengthsOf (workedOf (asked 0 5 2 0 0)) ≡ switchingOfTwo) × (lengthsOf (workedOf (asked 0 5 14 1 1)) ≡ switchingOfFourteen)
+unfolding workedOf acceptedOf settingsOf settingsRefusal refusal symbolRate rowOf smallest lengthsOf frameLengths frameBits counterAfter
+    bitsOf highOf stepOf uncodedOf shellOf shapingOf minimumOf nearestOf expandedOf pointsOf
 switching-cases = (refl, refl)

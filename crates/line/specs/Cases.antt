@@ -2,15 +2,14 @@
 -- the lengths of the mapping frames of a data frame.
 use mathlib.Core.List.{List, [], _∷_, _++_}
 use Prim.Native.Nat.{ℕ}
+use Rattle.line.specs.declared.asked.Asked.{Asked}
 use Rattle.line.specs.declared.settings.Worked.{Worked}
 use Rattle.line.specs.declared.settings.Worked.the-variants.{Accepted, Refused}
+use Rattle.line.specs.Asked.{asked}
 use Rattle.line.specs.Switching.{frameLengths}
 
 pub record Case : Type 0 where
-  pub s : ℕ
-  pub n : ℕ
-  pub shaping : ℕ
-  pub mark : ℕ
+  pub asked : Asked
   pub number : ℕ
   pub values : List ℕ
 
@@ -18,11 +17,12 @@ pub record Case : Type 0 where
 abbrev pub zeros : List ℕ
 zeros = 0 ∷ 0 ∷ 0 ∷ 0 ∷ 0 ∷ 0 ∷ 0 ∷ 0 ∷ []
 
+-- the role changes nothing here: it is 0
 abbrev pub accepted : ℕ → ℕ → ℕ → ℕ → List ℕ → Case
-accepted s n shaping mark values = record { s = s; n = n; shaping = shaping; mark = mark; number = 0; values = values }
+accepted s n shaping mark values = record { asked = asked 0 s n shaping mark; number = 0; values = values }
 
 abbrev pub refused : ℕ → ℕ → ℕ → ℕ → ℕ → Case
-refused s n shaping mark number = record { s = s; n = n; shaping = shaping; mark = mark; number = number; values = zeros }
+refused s n shaping mark number = record { asked = asked 0 s n shaping mark; number = number; values = zeros }
 
 abbrev pub cases : List Case
 cases =

@@ -1,4 +1,4 @@
--- The settings worked out (document 01, "Settings" and "What comes back"), for any five numbers. The first refusal that holds is
+-- The settings worked out (document 01, "Settings" and "What comes back"), whatever is asked for. The first refusal that holds is
 -- given:
 --
 --     1    role not 0 or 1                 4    shaping not 0 or 1
@@ -14,9 +14,10 @@
 --     0      0   1    0         2       refused 5
 use mathlib.Core.Bool.{Bool, true, _||_, _&&_, cond}
 use mathlib.Core.List.{List, [], _∷_}
-use Prim.Native.Nat.{ℕ, _≤_}
+use Prim.Native.Nat.{ℕ}
 use lib.Dec.{leb, ltb, eqb}
 use Rattle.laws.specs.Choice.{refusal}
+use Rattle.line.specs.declared.asked.Asked.{Asked}
 use Rattle.line.specs.declared.rate.SymbolRate.{SymbolRate}
 use Rattle.line.specs.declared.rate.Rate.{Rate}
 use Rattle.line.specs.declared.rate.Rate.the-variants.{Known, Unknown}
@@ -33,13 +34,6 @@ abbrev pub outside : Rate → ℕ → Bool
 outside (Known rate) n = ltb n (rate .least) || ltb (rate .most) n
 outside Unknown n = true
 
--- what a row of the table of rates and an n in its range have, and the work-out of their numbers relies on
-pub record InRange (rate : SymbolRate) (n : ℕ) : Type 0 where
-  pub least : 1 ≤ n
-  pub most : n ≤ 14
-  pub fewest : 12 ≤ rate .p
-  pub fullest : rate .p ≤ 16
-
 -- a mark that is not stated, and one that says that the far end has no large constellation
 abbrev pub unstated : ℕ → Bool
 unstated mark = ltb 1 mark
@@ -48,19 +42,19 @@ abbrev pub denied : ℕ → Bool
 denied mark = eqb mark 0
 
 -- the refusals in their order
-abbrev pub refusals : ℕ → ℕ → ℕ → ℕ → ℕ → List (Bool × ℕ)
-refusals role s n shaping mark =
-    (ltb 1 role, 1)
-    ∷ (ltb 5 s, 2)
-    ∷ (outside (symbolRate s) n, 3)
-    ∷ (ltb 1 shaping, 4)
-    ∷ (unstated mark, 5)
-    ∷ (leb 13 n && denied mark, 6)
+abbrev pub refusals : Asked → List (Bool × ℕ)
+refusals asked =
+    (ltb 1 (asked .role), 1)
+    ∷ (ltb 5 (asked .s), 2)
+    ∷ (outside (symbolRate (asked .s)) (asked .n), 3)
+    ∷ (ltb 1 (asked .shaping), 4)
+    ∷ (unstated (asked .mark), 5)
+    ∷ (leb 13 (asked .n) && denied (asked .mark), 6)
     ∷ []
 
 -- the refusal number, 0 where the settings are accepted
-unfoldable pub settingsRefusal : ℕ → ℕ → ℕ → ℕ → ℕ → ℕ
-settingsRefusal role s n shaping mark = refusal (refusals role s n shaping mark)
+unfoldable pub settingsRefusal : Asked → ℕ
+settingsRefusal asked = refusal (refusals asked)
 
 -- the shaping of K, holding its ring count M
 unfoldable pub shapingOf : ℕ → ℕ → Shaping
@@ -70,18 +64,20 @@ abbrev pub ringsOfShaping : Shaping → ℕ
 ringsOfShaping (Minimum M) = M
 ringsOfShaping (Expanded M) = M
 
--- the settings of a role, a symbol rate, n and a shaping
-unfoldable pub settingsOf : ℕ → SymbolRate → ℕ → ℕ → Settings
-settingsOf role rate n shaping =
-    let N = bitsOf (rate .j) n in
+-- the settings that are asked for, at the symbol rate that they name; all N bits are the user's, as no auxiliary channel is built
+unfoldable pub settingsOf : Asked → SymbolRate → Settings
+settingsOf asked rate =
+    let N = bitsOf (rate .j) (asked .n) in
     let P = rate .p in
     let b = highOf N P in
     let q = uncodedOf b in
     let K = shellOf b in
-    let M = shapingOf shaping K in
+    let M = shapingOf (asked .shaping) K in
     record {
-      role = role;
+      role = asked .role;
+      superframe = rate .j;
       bits = N;
+      user = N;
       frames = P;
       high = b;
       step = stepOf N P b;
@@ -92,15 +88,15 @@ settingsOf role rate n shaping =
     }
 
 -- the settings of a rate that is known
-unfoldable pub acceptedOf : ℕ → Rate → ℕ → ℕ → Worked
-acceptedOf role (Known rate) n shaping = Accepted (settingsOf role rate n shaping)
-acceptedOf role Unknown n shaping = Refused 2
+unfoldable pub acceptedOf : Asked → Rate → Worked
+acceptedOf asked (Known rate) = Accepted (settingsOf asked rate)
+acceptedOf asked Unknown = Refused 2
 
 -- what the work-out answers
-unfoldable pub workedOf : ℕ → ℕ → ℕ → ℕ → ℕ → Worked
-workedOf role s n shaping mark =
-    let no = settingsRefusal role s n shaping mark in
-    cond (eqb no 0) (acceptedOf role (symbolRate s) n shaping) (Refused no)
+unfoldable pub workedOf : Asked → Worked
+workedOf asked =
+    let no = settingsRefusal asked in
+    cond (eqb no 0) (acceptedOf asked (symbolRate (asked .s))) (Refused no)
 
 -- the paper's number of an answer, and its values N P b r K q M L: zeros where it is refused
 abbrev pub numberOf : Worked → ℕ
@@ -108,5 +104,6 @@ numberOf (Accepted c) = 0
 numberOf (Refused number) = number
 
 abbrev pub valuesOf : Worked → List ℕ
-valuesOf (Accepted c) = c .bits ∷ c .frames ∷ c .high ∷ c .step ∷ c .shell ∷ c .uncoded ∷ ringsOfShaping (c .shaping) ∷ c .points ∷ []
+valuesOf (Accepted c) =
+    c .bits ∷ c .frames ∷ c .high ∷ c .step ∷ c .shell ∷ c .uncoded ∷ ringsOfShaping (c .shaping) ∷ c .points ∷ []
 valuesOf (Refused number) = 0 ∷ 0 ∷ 0 ∷ 0 ∷ 0 ∷ 0 ∷ 0 ∷ 0 ∷ []

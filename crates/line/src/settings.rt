@@ -1,8 +1,11 @@
 // The settings of a line, worked out or refused (document 01, "Settings" and "What comes back").
 ghost use mathlib.Core.Path.{_≡_};
 ghost use Prim.Native.Nat.{_<_};
-ghost use Rattle.line.specs.Settings.{unstated, denied, settingsRefusal, shapingOf, ringsOfShaping, settingsOf, workedOf, numberOf, valuesOf, InRange};
+ghost use Rattle.line.specs.Requires.{InRange};
+ghost use Rattle.line.specs.Settings.{unstated, denied, settingsRefusal, shapingOf, ringsOfShaping, settingsOf, workedOf};
+ghost use Rattle.line.specs.Settings.{numberOf, valuesOf};
 ghost use Rattle.line.specs.declared.settings.Worked.the-variants.{Accepted};
+use crate::asked::Asked;
 use crate::numbers::bits_of;
 use crate::numbers::high_of;
 use crate::numbers::points_of;
@@ -20,16 +23,29 @@ pub enum Shaping {
     Expanded(u64),
 }
 
-// A checked set of settings: the role of the sending end, N, P, b, r, K, q, the shaping with M, and L.
+// A checked set of settings, with the numbers that follow from them.
 pub struct Settings {
+    // the sending end: 0 call modem, 1 answer modem
     pub role: u64,
+    // J: data frames in a superframe
+    pub superframe: u64,
+    // N: bits in a data frame, which are switched, coded and answered
     pub bits: u64,
+    // how many of the N bits are the user's: all of them, as no auxiliary channel is built
+    pub user: u64,
+    // P: mapping frames in a data frame
     pub frames: u64,
+    // b: bits in a high mapping frame
     pub high: u64,
+    // r: high mapping frames in a data frame, and the step of the switching counter
     pub step: u64,
+    // K: bits of S, the number of the eight rings
     pub shell: u64,
+    // q: uncoded bits of a 2D symbol
     pub uncoded: u64,
+    // M: rings, with the kind of shaping that gives as many
     pub shaping: Shaping,
+    // L: points in the constellation
     pub points: u64,
 }
 
@@ -88,22 +104,24 @@ fn shaping_of(shaping: u64, k: u64) -> Shaping
     Shaping::Expanded(expanded_rings(k))
 }
 
-// The numbers that follow from a symbol rate, n and a shaping.
-fn settings_of(role: u64, rate: SymbolRate, n: u64, shaping: u64) -> Settings
-    requires { ⌜ InRange rate n ⌝ }
-    ensures { λ r. ⌜ r ≡ settingsOf role rate n shaping ⌝ }
+// The numbers that follow from what is asked, at the symbol rate that it names.
+fn settings_of(asked: Asked, rate: SymbolRate) -> Settings
+    requires { ⌜ InRange rate (asked .n) ⌝ }
+    ensures { λ r. ⌜ r ≡ settingsOf asked rate ⌝ }
 {
-    let bits = bits_of(rate.j, n);
+    let bits = bits_of(rate.j, asked.n);
     let frames = rate.p;
     let high = high_of(bits, frames);
     let step = step_of(bits, frames, high);
     let uncoded = uncoded_of(high);
     let shell = shell_of(high, uncoded);
-    let kind = shaping_of(shaping, shell);
+    let kind = shaping_of(asked.shaping, shell);
     let points = points_of(rings_of_shaping(kind), uncoded);
     Settings {
-        role,
+        role: asked.role,
+        superframe: rate.j,
         bits,
+        user: bits,
         frames,
         high,
         step,
@@ -128,31 +146,31 @@ fn is_denied(mark: u64) -> bool
     mark == 0
 }
 
-// The first refusal that holds of five numbers, 0 where none does.
-fn first_refusal(role: u64, s: u64, n: u64, shaping: u64, mark: u64) -> u64
-    ensures { λ r. ⌜ r ≡ settingsRefusal role s n shaping mark ⌝ }
+// The first refusal that holds of what is asked, 0 where none does.
+fn first_refusal(asked: Asked) -> u64
+    ensures { λ r. ⌜ r ≡ settingsRefusal asked ⌝ }
 {
-    let unstated = is_unstated(mark);
-    let denied = is_denied(mark);
-    if role > 1 {
+    let unstated = is_unstated(asked.mark);
+    let denied = is_denied(asked.mark);
+    if asked.role > 1 {
         return 1;
     }
-    let Rate::Known(rate) = SymbolRate::of(s) else {
+    let Rate::Known(rate) = SymbolRate::of(asked.s) else {
         return 2;
     };
-    if n < rate.least {
+    if asked.n < rate.least {
         return 3;
     }
-    if n > rate.most {
+    if asked.n > rate.most {
         return 3;
     }
-    if shaping > 1 {
+    if asked.shaping > 1 {
         return 4;
     }
     if unstated {
         return 5;
     }
-    if n < 13 {
+    if asked.n < 13 {
         return 0;
     }
     if denied {
@@ -161,16 +179,16 @@ fn first_refusal(role: u64, s: u64, n: u64, shaping: u64, mark: u64) -> u64
     0
 }
 
-// The settings that five numbers give, or the first refusal that holds.
-pub fn work_out(role: u64, s: u64, n: u64, shaping: u64, mark: u64) -> Worked
-    ensures { λ r. ⌜ r ≡ workedOf role s n shaping mark ⌝ }
+// The settings that are asked for, worked out, or the first refusal that holds.
+pub fn work_out(asked: Asked) -> Worked
+    ensures { λ r. ⌜ r ≡ workedOf asked ⌝ }
 {
-    let number = first_refusal(role, s, n, shaping, mark);
+    let number = first_refusal(asked);
     if number > 0 {
         return Worked::Refused(number);
     }
-    let Rate::Known(rate) = SymbolRate::of(s) else {
+    let Rate::Known(rate) = SymbolRate::of(asked.s) else {
         return Worked::Refused(2);
     };
-    Worked::Accepted(settings_of(role, rate, n, shaping))
+    Worked::Accepted(settings_of(asked, rate))
 }

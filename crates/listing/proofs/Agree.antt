@@ -13,12 +13,14 @@ use Rattle.laws.specs.Order.{thenBy, isLess, compareKeys}
 use Rattle.laws.specs.Sum.{sum}
 use Rattle.laws.proofs.Orders.{thenBy-assoc}
 use Rattle.laws.proofs.Counting.{count-same}
-use Rattle.listing.specs.Sets.{Pair, Four, Eight, Below2, Below4, Below8, weight2, weight4, weight8, allPairs, allFours, allEights, m1, m2, m3, m4, m5, m6, m7, m8}
+use Rattle.listing.specs.Sets.{Four, Eight, Below8, weight2, weight4, weight8, allPairs, allFours, allEights}
+use Rattle.listing.specs.Sets.{m1, m2, m3, m4, m5, m6, m7, m8}
 use Rattle.listing.specs.Order.{keys, before, standing}
 use Rattle.listing.specs.Counts.{g2, g4, g8, z8, lighter}
 use Rattle.listing.specs.Number.{ringsOf, number, pairAt, placeOfPair, placeOfFour, fourAt}
 use Rattle.listing.proofs.Family.{Family, Graded, join, joined}
-use Rattle.listing.proofs.Listing.{Listed, numberIn, itemOf, orderIn, number-below, item-number, fine-found, number-item, counts-count, sum-counts, all-counted, standing-number}
+use Rattle.listing.proofs.Listing.{numberIn, itemOf, orderIn, number-below, item-number, fine-found, number-item}
+use Rattle.listing.proofs.Listing.{counts-count, sum-counts, all-counted, standing-number}
 use Rattle.listing.proofs.Pairs.{pairs, pairs-graded}
 use Rattle.listing.proofs.Plain.{listed2, listed4, listed8, length-allEights}
 
@@ -63,7 +65,8 @@ last-key Ordering·gt = refl
 order-is : (x y : Eight) (M : ℕ) → compareKeys (keys x) (keys y) ≡ orderIn (eights M) x y
 unfolding compareKeys keys
 order-is x y M =
-    ap₂ thenBy (ap₂ compare (total x) (total y)) (ap₂ thenBy (ap₂ compare (front x) (front y)) (ap rest (last-key (compare (m1 x) (m1 y))) ∙ regroup))
+    ap₂ thenBy (ap₂ compare (total x) (total y))
+    (ap₂ thenBy (ap₂ compare (front x) (front y)) (ap rest (last-key (compare (m1 x) (m1 y))) ∙ regroup))
   where
     total : (x : Eight) → m1 x + m2 x + m3 x + m4 x + m5 x + m6 x + m7 x + m8 x ≡ weight8 x
     total x = omega arith
@@ -72,7 +75,10 @@ order-is x y M =
     front x = omega arith
 
     rest : Ordering → Ordering
-    rest o = thenBy (compare (m5 x + m6 x) (m5 y + m6 y)) (thenBy (compare (m7 x) (m7 y)) (thenBy (compare (m5 x) (m5 y)) (thenBy (compare (m1 x + m2 x) (m1 y + m2 y)) (thenBy (compare (m3 x) (m3 y)) o))))
+    rest o =
+        thenBy (compare (m5 x + m6 x) (m5 y + m6 y))
+        (thenBy (compare (m7 x) (m7 y))
+        (thenBy (compare (m5 x) (m5 y)) (thenBy (compare (m1 x + m2 x) (m1 y + m2 y)) (thenBy (compare (m3 x) (m3 y)) o))))
 
     regroup : rest (compare (m1 x) (m1 y)) ≡ thenBy (fours M .order (x .1) (y .1)) (fours M .order (x .0) (y .0))
     regroup = simp thenBy-assoc
@@ -87,24 +93,38 @@ module _ (M : ℕ) where
 
   -- the number of a set is below M^8
   pub number-below-all : (x : Eight) → Below8 M x → number M x < M ^ 8
-  number-below-all x h = subst (λ (k : ℕ). number M x < k) all-sets (subst (λ (k : ℕ). k < sum (eights M .counts) (suc (8 * (M - 1)))) (sym (number-is M x)) (number-below (eights M) (eights-graded M) (8 * (M - 1)) (heaviest M) x h))
+  number-below-all x h =
+      omega (arith, all-sets, number-is M x, number-below (eights M) (eights-graded M) (8 * (M - 1)) (heaviest M) x h)
+
+  -- a number below M^8 is below the count of all eights
+  counted-below : (S : ℕ) → S < M ^ 8 → S < sum (eights M .counts) (suc (8 * (M - 1)))
+  counted-below S h = subst (λ (k : ℕ). S < k) (sym all-sets) h
 
   -- the rings of a number below M^8 are below M
   pub rings-below : (S : ℕ) → S < M ^ 8 → Below8 M (ringsOf M S)
-  rings-below S h = subst (Below8 M) (sym (rings-are M S)) (fine-found (eights M) (eights-graded M) (8 * (M - 1)) (heaviest M) S (subst (λ (k : ℕ). S < k) (sym all-sets) h))
+  rings-below S h =
+      subst (Below8 M) (sym (rings-are M S))
+      (fine-found (eights M) (eights-graded M) (8 * (M - 1)) (heaviest M) S (counted-below S h))
 
   -- rings of a number and number of rings undo each other
   pub rings-of-number : (x : Eight) → Below8 M x → ringsOf M (number M x) ≡ x
-  rings-of-number x h = rings-are M (number M x) ∙ (ap (itemOf (eights M) (8 * (M - 1))) (number-is M x) ∙ item-number (eights M) (eights-graded M) (8 * (M - 1)) (heaviest M) x h)
+  rings-of-number x h =
+      rings-are M (number M x)
+      ∙ (ap (itemOf (eights M) (8 * (M - 1))) (number-is M x)
+      ∙ item-number (eights M) (eights-graded M) (8 * (M - 1)) (heaviest M) x h)
 
   pub number-of-rings : (S : ℕ) → S < M ^ 8 → number M (ringsOf M S) ≡ S
-  number-of-rings S h = number-is M (ringsOf M S) ∙ (ap (numberIn (eights M)) (rings-are M S) ∙ number-item (eights M) (eights-graded M) (8 * (M - 1)) (heaviest M) S (subst (λ (k : ℕ). S < k) (sym all-sets) h))
+  number-of-rings S h =
+      number-is M (ringsOf M S)
+      ∙ (ap (numberIn (eights M)) (rings-are M S)
+      ∙ number-item (eights M) (eights-graded M) (8 * (M - 1)) (heaviest M) S (counted-below S h))
 
   -- as many sets stand before x as its number says
   pub standing-is-number : (x : Eight) → Below8 M x → standing M x ≡ number M x
   unfolding standing before
   standing-is-number x h =
-      count-same (eights M .Fine) (λ y. before y x) (λ y. isLess (orderIn (eights M) y x)) (λ y hy. ap isLess (order-is y x M)) (allEights M) (listed8 M .fine)
+      count-same (eights M .Fine) (λ y. before y x) (λ y. isLess (orderIn (eights M) y x)) (λ y hy. ap isLess (order-is y x M))
+      (allEights M) (listed8 M .fine)
       ∙ (standing-number (eights M) (eights-graded M) (8 * (M - 1)) (heaviest M) (allEights M) (listed8 M) x h ∙ sym (number-is M x))
 
   -- the algorithm gives x for S exactly when S sets stand before x

@@ -43,8 +43,13 @@ join 𝓕 =
       Fine = λ z. 𝓕 .Fine (z .0) × 𝓕 .Fine (z .1);
       weight = λ z. 𝓕 .weight (z .0) + 𝓕 .weight (z .1);
       counts = λ t. lighter (𝓕 .counts) t (suc t);
-      place = λ z. lighter (𝓕 .counts) (𝓕 .weight (z .0) + 𝓕 .weight (z .1)) (𝓕 .weight (z .0)) + (𝓕 .place (z .1) * 𝓕 .counts (𝓕 .weight (z .0)) + 𝓕 .place (z .0));
-      item = λ t i. (𝓕 .item (firstWeight (𝓕 .counts) t i) (restOf (𝓕 .counts) t i % 𝓕 .counts (firstWeight (𝓕 .counts) t i)), 𝓕 .item (t - firstWeight (𝓕 .counts) t i) (restOf (𝓕 .counts) t i / 𝓕 .counts (firstWeight (𝓕 .counts) t i)));
+      place = λ z.
+          let p = 𝓕 .weight (z .0) in
+          lighter (𝓕 .counts) (p + 𝓕 .weight (z .1)) p + (𝓕 .place (z .1) * 𝓕 .counts p + 𝓕 .place (z .0));
+      item = λ t i.
+          let p = firstWeight (𝓕 .counts) t i in
+          let r = restOf (𝓕 .counts) t i in
+          (𝓕 .item p (r % 𝓕 .counts p), 𝓕 .item (t - p) (r / 𝓕 .counts p));
       order = λ z w. thenBy (compare (𝓕 .weight (z .0)) (𝓕 .weight (w .0))) (thenBy (𝓕 .order (z .1) (w .1)) (𝓕 .order (z .0) (w .0)));
     }
 
@@ -63,7 +68,8 @@ module _ {X : Type 0} (𝓕 : Family X) (𝓖 : Graded 𝓕) where
       let q = 𝓕 .weight (z .1) in
       let e' : t - p ≡ q = subst (λ (k : ℕ). k - p ≡ q) e (add-sub-cancel-left p q) in
       subst (λ (k : ℕ). inner z < 𝓕 .counts p * 𝓕 .counts k) (sym e')
-      (subst (λ (k : ℕ). inner z < k) (mul-comm (𝓕 .counts q) (𝓕 .counts p)) (digits-lt (𝓖 .place-below (z .1) (h .1)) (𝓖 .place-below (z .0) (h .0))))
+      (subst (λ (k : ℕ). inner z < k) (mul-comm (𝓕 .counts q) (𝓕 .counts p))
+      (digits-lt (𝓖 .place-below (z .1) (h .1)) (𝓖 .place-below (z .0) (h .0))))
 
   -- so a pair lies in one block
   in-block :
@@ -120,7 +126,9 @@ module _ {X : Type 0} (𝓕 : Family X) (𝓖 : Graded 𝓕) where
   joined-fine-item : (t i : ℕ) → i < join 𝓕 .counts t → join 𝓕 .Fine (join 𝓕 .item t i)
   joined-fine-item t i h =
       let v = halved (𝓕 .counts) t i h in
-      (𝓖 .fine-item (firstWeight (𝓕 .counts) t i) (restOf (𝓕 .counts) t i % 𝓕 .counts (firstWeight (𝓕 .counts) t i)) (v .first), 𝓖 .fine-item (t - firstWeight (𝓕 .counts) t i) (restOf (𝓕 .counts) t i / 𝓕 .counts (firstWeight (𝓕 .counts) t i)) (v .second))
+      let p = firstWeight (𝓕 .counts) t i in
+      let r = restOf (𝓕 .counts) t i in
+      (𝓖 .fine-item p (r % 𝓕 .counts p) (v .first), 𝓖 .fine-item (t - p) (r / 𝓕 .counts p) (v .second))
 
   joined-weight-item : (t i : ℕ) → i < join 𝓕 .counts t → join 𝓕 .weight (join 𝓕 .item t i) ≡ t
   joined-weight-item t i h =
@@ -187,16 +195,21 @@ module _ {X : Type 0} (𝓕 : Family X) (𝓖 : Graded 𝓕) where
       -- the two places compare by the first halves' weights, then by the digits
       outside : compare (join 𝓕 .place z) (join 𝓕 .place w) ≡ thenBy (compare p q) (compare (inner z) (inner w))
       outside =
-          subst (λ (k : ℕ). compare (lighter (𝓕 .counts) k p + inner z) (sum block q + inner w) ≡ thenBy (compare p q) (compare (inner z) (inner w))) (sym e)
+          subst
+          (λ (k : ℕ).
+          compare (lighter (𝓕 .counts) k p + inner z) (sum block q + inner w) ≡ thenBy (compare p q) (compare (inner z) (inner w)))
+          (sym e)
           (packed (sum block) block (sum-rises block) p q (inner z) (inner w) (inner-below t z hz e) (inner-below t w hw refl))
 
       -- where the first halves weigh the same, the digits compare as the halves do, the second first
       digits : p ≡ q → thenBy (𝓕 .order (z .1) (w .1)) (𝓕 .order (z .0) (w .0)) ≡ compare (inner z) (inner w)
       digits same =
           let heavy : 𝓕 .weight (z .1) ≡ 𝓕 .weight (w .1) = omega arith in
-          let below : 𝓕 .place (w .0) < 𝓕 .counts p = subst (λ (k : ℕ). 𝓕 .place (w .0) < 𝓕 .counts k) (sym same) (𝓖 .place-below (w .0) (hw .0)) in
+          let below : 𝓕 .place (w .0) < 𝓕 .counts p =
+          subst (λ (k : ℕ). 𝓕 .place (w .0) < 𝓕 .counts k) (sym same) (𝓖 .place-below (w .0) (hw .0)) in
           ap₂ thenBy (𝓖 .by-place (z .1) (w .1) (hz .1) (hw .1) heavy) (𝓖 .by-place (z .0) (w .0) (hz .0) (hw .0) same)
-          ∙ sym (packed-digits (𝓕 .counts p) (𝓕 .place (z .1)) (𝓕 .place (w .1)) (𝓕 .place (z .0)) (𝓕 .place (w .0)) (𝓖 .place-below (z .0) (hz .0)) below)
+          ∙ sym (packed-digits (𝓕 .counts p) (𝓕 .place (z .1)) (𝓕 .place (w .1)) (𝓕 .place (z .0)) (𝓕 .place (w .0))
+          (𝓖 .place-below (z .0) (hz .0)) below)
           ∙ ap (λ (k : ℕ). compare (inner z) (𝓕 .place (w .1) * 𝓕 .counts k + 𝓕 .place (w .0))) same
 
       inside : join 𝓕 .order z w ≡ thenBy (compare p q) (compare (inner z) (inner w))

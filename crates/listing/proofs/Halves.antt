@@ -38,7 +38,13 @@ halved g t i h = go (largest-within f i t h)
     p = largest (sum f) i t
 
     go : Within f i p → Halved g t i
-    go w = record { least = largest-le (sum f) i t; from = w .from; below = room; first = mod-lt rest some; second = div-lt-iff-lt-mul some .1 (subst (λ (k : ℕ). rest < k) (mul-comm (g p) (g (t - p))) room) }
+    go w = record {
+      least = largest-le (sum f) i t;
+      from = w .from;
+      below = room;
+      first = mod-lt rest some;
+      second = div-lt-iff-lt-mul some .1 (subst (λ (k : ℕ). rest < k) (mul-comm (g p) (g (t - p))) room);
+    }
       where
         rest : ℕ
         rest = i - sum f p
@@ -47,4 +53,7 @@ halved g t i h = go (largest-within f i t h)
         room = let u = w .from in let v = w .to in omega arith
 
         some : 0 < g p
-        some = ⊎-elim (λ e. absurd (let z = subst (λ (k : ℕ). rest < k * g (t - p)) e room in let y = zero-mul (g (t - p)) in omega arith)) (λ l. l) (eq-zero-or-pos (g p))
+        some = ⊎-elim (λ e. absurd (none e)) (λ l. l) (eq-zero-or-pos (g p))
+          where
+            none : g p ≡ 0 → ⊥
+            none e = omega (arith, subst (λ (k : ℕ). rest < k * g (t - p)) e room, zero-mul (g (t - p)))

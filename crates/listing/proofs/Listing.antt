@@ -43,7 +43,9 @@ module _ {X : Type 0} (𝓕 : Family X) (𝓖 : Graded 𝓕) (top : ℕ) (heavie
       omega arith
 
   pub item-number : (x : X) → 𝓕 .Fine x → itemOf 𝓕 top (numberIn 𝓕 x) ≡ x
-  item-number x h = go (largest (sum (𝓕 .counts)) (numberIn 𝓕 x) top) (largest-is (𝓕 .counts) (numberIn 𝓕 x) top (𝓕 .weight x) (heaviest x h) (number-within x h))
+  item-number x h =
+      let s = numberIn 𝓕 x in
+      go (largest (sum (𝓕 .counts)) s top) (largest-is (𝓕 .counts) s top (𝓕 .weight x) (heaviest x h) (number-within x h))
     where
       go : (a : ℕ) → a ≡ 𝓕 .weight x → 𝓕 .item a (numberIn 𝓕 x - sum (𝓕 .counts) a) ≡ x
       go a e =
@@ -51,7 +53,10 @@ module _ {X : Type 0} (𝓕 : Family X) (𝓖 : Graded 𝓕) (top : ℕ) (heavie
           (ap (𝓕 .item (𝓕 .weight x)) (add-sub-cancel-left (sum (𝓕 .counts) (𝓕 .weight x)) (𝓕 .place x)) ∙ 𝓖 .item-place x h)
 
   -- what is found for a number below the count of all items
-  place-found : (s : ℕ) → s < sum (𝓕 .counts) (suc top) → s - sum (𝓕 .counts) (largest (sum (𝓕 .counts)) s top) < 𝓕 .counts (largest (sum (𝓕 .counts)) s top)
+  place-found :
+      (s : ℕ) → s < sum (𝓕 .counts) (suc top)
+      → let a = largest (sum (𝓕 .counts)) s top in
+      s - sum (𝓕 .counts) a < 𝓕 .counts a
   place-found s h =
       let w = largest-within (𝓕 .counts) s top h in
       let a = w .from in
@@ -75,7 +80,8 @@ module _ {X : Type 0} (𝓕 : Family X) (𝓖 : Graded 𝓕) (top : ℕ) (heavie
   pub by-number : (x y : X) → 𝓕 .Fine x → 𝓕 .Fine y → orderIn 𝓕 x y ≡ compare (numberIn 𝓕 x) (numberIn 𝓕 y)
   by-number x y hx hy =
       thenBy-same (𝓕 .weight x) (𝓕 .weight y) (𝓕 .order x y) (compare (𝓕 .place x) (𝓕 .place y)) (𝓖 .by-place x y hx hy)
-      ∙ sym (packed (sum (𝓕 .counts)) (𝓕 .counts) (sum-rises (𝓕 .counts)) (𝓕 .weight x) (𝓕 .weight y) (𝓕 .place x) (𝓕 .place y) (𝓖 .place-below x hx) (𝓖 .place-below y hy))
+      ∙ sym (packed (sum (𝓕 .counts)) (𝓕 .counts) (sum-rises (𝓕 .counts)) (𝓕 .weight x) (𝓕 .weight y) (𝓕 .place x) (𝓕 .place y)
+      (𝓖 .place-below x hx) (𝓖 .place-below y hy))
 
 -- a plain list of a family: every item of it is fine, and each fine item occurs in it once, by a test that says which are the same
 pub record Listed {X : Type 0} (𝓕 : Family X) (all : List X) : Type 0 where
@@ -144,25 +150,34 @@ module _ {X : Type 0} (𝓕 : Family X) (𝓖 : Graded 𝓕) (all : List X) (�
       counted-by (𝓕 .weight) all (𝓕 .counts) counts-count p
       ∙ (ap (λ (k : ℕ). k + 𝓕 .counts p) (sum-counts p) ∙ sym (sum-suc (𝓕 .counts) p))
 
-module _ {X : Type 0} (𝓕 : Family X) (𝓖 : Graded 𝓕) (top : ℕ) (heaviest : (x : X) → 𝓕 .Fine x → 𝓕 .weight x ≤ top) (all : List X) (𝓛 : Listed 𝓕 all) where
-  each-once : (k : ℕ) → k < sum (𝓕 .counts) (suc top) → count (λ y. eqb (numberIn 𝓕 y) k) all ≡ 1
-  each-once k l = hit-once 𝓕 𝓖 all 𝓛 (numberIn 𝓕) k (itemOf 𝓕 top k) (fine-found 𝓕 𝓖 top heaviest k l) (number-item 𝓕 𝓖 top heaviest k l) only
-    where
-      only : (y : X) → 𝓕 .Fine y → numberIn 𝓕 y ≡ k → y ≡ itemOf 𝓕 top k
-      only y h e = sym (item-number 𝓕 𝓖 top heaviest y h) ∙ ap (itemOf 𝓕 top) e
+module _
+    {X : Type 0} (𝓕 : Family X) (𝓖 : Graded 𝓕) (top : ℕ) (heaviest : (x : X) → 𝓕 .Fine x → 𝓕 .weight x ≤ top)
+    (all : List X) (𝓛 : Listed 𝓕 all)
+  where
+    each-once : (k : ℕ) → k < sum (𝓕 .counts) (suc top) → count (λ y. eqb (numberIn 𝓕 y) k) all ≡ 1
+    each-once k l =
+        hit-once 𝓕 𝓖 all 𝓛 (numberIn 𝓕) k (itemOf 𝓕 top k) (fine-found 𝓕 𝓖 top heaviest k l) (number-item 𝓕 𝓖 top heaviest k l) only
+      where
+        only : (y : X) → 𝓕 .Fine y → numberIn 𝓕 y ≡ k → y ≡ itemOf 𝓕 top k
+        only y h e = sym (item-number 𝓕 𝓖 top heaviest y h) ∙ ap (itemOf 𝓕 top) e
 
-  -- there are as many numbers as items
-  pub all-counted : sum (𝓕 .counts) (suc top) ≡ length all
-  all-counted =
-      sym (counted (numberIn 𝓕) all (sum (𝓕 .counts) (suc top)) each-once (sum (𝓕 .counts) (suc top)) (omega arith))
-      ∙ (count-same (𝓕 .Fine) (λ y. ltb (numberIn 𝓕 y) (sum (𝓕 .counts) (suc top))) (λ y. true) (λ y h. lt-ltb (numberIn 𝓕 y) (sum (𝓕 .counts) (suc top)) (number-below 𝓕 𝓖 top heaviest y h)) all (𝓛 .fine)
-      ∙ count-all all)
+    -- there are as many numbers as items
+    pub all-counted : sum (𝓕 .counts) (suc top) ≡ length all
+    all-counted =
+        sym (counted (numberIn 𝓕) all whole each-once whole (omega arith))
+        ∙ (count-same (𝓕 .Fine) (λ y. ltb (numberIn 𝓕 y) whole) (λ y. true) below all (𝓛 .fine) ∙ count-all all)
+      where
+        whole : ℕ
+        whole = sum (𝓕 .counts) (suc top)
 
-  -- as many items stand before x as its number says
-  pub standing-number : (x : X) → 𝓕 .Fine x → count (λ y. isLess (orderIn 𝓕 y x)) all ≡ numberIn 𝓕 x
-  standing-number x h =
-      count-same (𝓕 .Fine) (λ y. isLess (orderIn 𝓕 y x)) (λ y. ltb (numberIn 𝓕 y) (numberIn 𝓕 x)) agree all (𝓛 .fine)
-      ∙ counted (numberIn 𝓕) all (sum (𝓕 .counts) (suc top)) each-once (numberIn 𝓕 x) (let b = number-below 𝓕 𝓖 top heaviest x h in omega arith)
-    where
-      agree : (y : X) → 𝓕 .Fine y → isLess (orderIn 𝓕 y x) ≡ ltb (numberIn 𝓕 y) (numberIn 𝓕 x)
-      agree y hy = ap isLess (by-number 𝓕 𝓖 top heaviest y x hy h) ∙ isLess-compare (numberIn 𝓕 y) (numberIn 𝓕 x)
+        below : (y : X) → 𝓕 .Fine y → ltb (numberIn 𝓕 y) whole ≡ true
+        below y h = lt-ltb (numberIn 𝓕 y) whole (number-below 𝓕 𝓖 top heaviest y h)
+
+    -- as many items stand before x as its number says
+    pub standing-number : (x : X) → 𝓕 .Fine x → count (λ y. isLess (orderIn 𝓕 y x)) all ≡ numberIn 𝓕 x
+    standing-number x h =
+        count-same (𝓕 .Fine) (λ y. isLess (orderIn 𝓕 y x)) (λ y. ltb (numberIn 𝓕 y) (numberIn 𝓕 x)) agree all (𝓛 .fine)
+        ∙ counted (numberIn 𝓕) all (sum (𝓕 .counts) (suc top)) each-once (numberIn 𝓕 x) (omega (arith, number-below 𝓕 𝓖 top heaviest x h))
+      where
+        agree : (y : X) → 𝓕 .Fine y → isLess (orderIn 𝓕 y x) ≡ ltb (numberIn 𝓕 y) (numberIn 𝓕 x)
+        agree y hy = ap isLess (by-number 𝓕 𝓖 top heaviest y x hy h) ∙ isLess-compare (numberIn 𝓕 y) (numberIn 𝓕 x)

@@ -8,7 +8,7 @@ use lib.Dec.{eqb}
 use lib.ListN.{length}
 use borrow.Author.Tests.{eqb-true, eq-eqb}
 use Rattle.laws.specs.Lists.{upTo, product, count, Every}
-use Rattle.laws.proofs.Bools.{and-left, and-right, and-both}
+use Rattle.laws.proofs.Bools.{and-parts, and-both}
 use Rattle.laws.proofs.Counting.{every-upTo, once-upTo, length-upTo, every-product, count-product, length-product}
 use Rattle.laws.proofs.Powers.{three-squarings}
 use Rattle.listing.specs.Sets.{Pair, Below2, allPairs, allFours, allEights}
@@ -21,10 +21,14 @@ unfolding allPairs
 pairs-listed M =
     record {
       same = λ x y. eqb (x .0) (y .0) && eqb (x .1) (y .1);
-      same-true = λ x y e. ap₂ (λ (a b : ℕ). (a, b)) (eqb-true (x .0) (y .0) (and-left (eqb (x .0) (y .0)) (eqb (x .1) (y .1)) e)) (eqb-true (x .1) (y .1) (and-right (eqb (x .0) (y .0)) (eqb (x .1) (y .1)) e));
+      same-true = λ x y e.
+          let both = and-parts (eqb (x .0) (y .0)) (eqb (x .1) (y .1)) e in
+          ap₂ (λ (a b : ℕ). (a, b)) (eqb-true (x .0) (y .0) (both .0)) (eqb-true (x .1) (y .1) (both .1));
       same-self = λ x. and-both (eqb (x .0) (x .0)) (eqb (x .1) (x .1)) (eq-eqb (x .0) (x .0) refl) (eq-eqb (x .1) (x .1) refl);
       fine = every-product (λ k. k < M) (λ k. k < M) (upTo M) (upTo M) (every-upTo M M (omega arith)) (every-upTo M M (omega arith));
-      once = λ x h. count-product (eqb (x .0)) (eqb (x .1)) (upTo M) (upTo M) ∙ ap₂ _*_ (once-upTo M (x .0) (h .0)) (once-upTo M (x .1) (h .1));
+      once = λ x h.
+          count-product (eqb (x .0)) (eqb (x .1)) (upTo M) (upTo M)
+          ∙ ap₂ _*_ (once-upTo M (x .0) (h .0)) (once-upTo M (x .1) (h .1));
     }
 
 -- all pairs out of a list that holds each item once hold each pair once
@@ -32,7 +36,9 @@ joined-listed : {X : Type 0} (𝓕 : Family X) (all : List X) → Listed 𝓕 al
 joined-listed 𝓕 all 𝓛 =
     record {
       same = λ x y. 𝓛 .same (x .0) (y .0) && 𝓛 .same (x .1) (y .1);
-      same-true = λ x y e. ap₂ (λ a b. (a, b)) (𝓛 .same-true (x .0) (y .0) (and-left (𝓛 .same (x .0) (y .0)) (𝓛 .same (x .1) (y .1)) e)) (𝓛 .same-true (x .1) (y .1) (and-right (𝓛 .same (x .0) (y .0)) (𝓛 .same (x .1) (y .1)) e));
+      same-true = λ x y e.
+          let both = and-parts (𝓛 .same (x .0) (y .0)) (𝓛 .same (x .1) (y .1)) e in
+          ap₂ (λ a b. (a, b)) (𝓛 .same-true (x .0) (y .0) (both .0)) (𝓛 .same-true (x .1) (y .1) (both .1));
       same-self = λ x. and-both (𝓛 .same (x .0) (x .0)) (𝓛 .same (x .1) (x .1)) (𝓛 .same-self (x .0)) (𝓛 .same-self (x .1));
       fine = every-product (𝓕 .Fine) (𝓕 .Fine) all all (𝓛 .fine) (𝓛 .fine);
       once = λ x h. count-product (𝓛 .same (x .0)) (𝓛 .same (x .1)) all all ∙ ap₂ _*_ (𝓛 .once (x .0) (h .0)) (𝓛 .once (x .1) (h .1));

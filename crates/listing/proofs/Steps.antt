@@ -43,7 +43,13 @@ module _ (M v : ℕ) (some : 1 ≤ M) where
 
   turns : v ≡ M - 1 → g2 M (suc v) + below (2 * M - 1) v ≡ g2 M v + 2 * below (M - 1) v
   turns h =
-      omega (arith, g2-high M (suc v) (omega arith), g2-low M v (omega arith), is-below (2 * M - 1) v (omega arith), not-below (M - 1) v (omega arith))
+      omega (
+        arith,
+        g2-high M (suc v) (omega arith),
+        g2-low M v (omega arith),
+        is-below (2 * M - 1) v (omega arith),
+        not-below (M - 1) v (omega arith),
+      )
 
   falls : M ≤ v → v < 2 * M - 1 → g2 M (suc v) + below (2 * M - 1) v ≡ g2 M v + 2 * below (M - 1) v
   falls h l =
@@ -51,7 +57,13 @@ module _ (M v : ℕ) (some : 1 ≤ M) where
 
   ends : 2 * M - 1 ≤ v → g2 M (suc v) + below (2 * M - 1) v ≡ g2 M v + 2 * below (M - 1) v
   ends h =
-      omega (arith, g2-ends M (suc v) (omega arith), g2-ends M v (omega arith), not-below (2 * M - 1) v h, not-below (M - 1) v (omega arith))
+      omega (
+        arith,
+        g2-ends M (suc v) (omega arith),
+        g2-ends M v (omega arith),
+        not-below (2 * M - 1) v h,
+        not-below (M - 1) v (omega arith),
+      )
 
   g2-step : g2 M (suc v) + below (2 * M - 1) v ≡ g2 M v + 2 * below (M - 1) v
   g2-step =

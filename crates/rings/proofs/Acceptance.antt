@@ -12,7 +12,7 @@ use Rattle.laws.specs.Choice.{refusal}
 use Rattle.listing.specs.Sets.{ofList}
 use Rattle.listing.specs.Number.{number}
 use Rattle.listing.proofs.Agree.{standing-is-number}
-use Rattle.rings.specs.Answers.{Mappable, mapRefusal, Rankable, rankRefusal, rankedOf}
+use Rattle.rings.specs.Mapping.{Mappable, mapRefusal, Rankable, rankRefusal, rankedOf}
 use Rattle.rings.proofs.Answering.{map-accepted, rank-accepted}
 use Rattle.rings.proofs.Tests.{is-permitted, below-all, asList-ofList}
 

@@ -1,7 +1,7 @@
 -- What the functions need of the entries' answers: what a call that no test refuses is, and what a refused call answers. Nothing here says
 -- that a call is accepted: Acceptance does. Assumes nothing.
-use mathlib.Core.Bool.{Bool, true, not}
-use mathlib.Core.List.{List, [], _∷_}
+use mathlib.Core.Bool.{Bool, true}
+use mathlib.Core.List.{List, [], _++_}
 use mathlib.Core.Path.{_≡_, sym, _∙_}
 use Prim.Native.Nat.{ℕ, _^_}
 use lib.Dec.{eqb}
@@ -12,8 +12,8 @@ use Rattle.laws.proofs.Bools.{not-not}
 use Rattle.laws.proofs.Choices.{none-first, none-rest, given-before}
 use Rattle.listing.specs.Sets.{ofList}
 use Rattle.listing.proofs.Agree.{standing-is-number}
-use Rattle.rings.specs.Answers.{Permitted, permitted, allBelow}
-use Rattle.rings.specs.Answers.{Mappable, mapRefusal, mapOut, Rankable, rankRefusal, rankTested, rankedOf}
+use Rattle.rings.specs.Mapping.{Permitted, allBelow}
+use Rattle.rings.specs.Mapping.{Mappable, mapRefusal, mapOut, Rankable, rankTests, rankRefusal, rankedOf}
 use Rattle.rings.specs.declared.entry.Ranked.{Ranked}
 use Rattle.rings.proofs.Tests.{permitted-is, all-below}
 
@@ -36,49 +36,45 @@ module _ (K M : ℕ) where
   map-left S out h = rw (ne-eqb (mapRefusal K M S (length out)) 0 h)
 
   -- what the ranker's first tests say
-  pub record Tested (rings : List ℕ) : Type 0 where
+  pub record Tested (rings : List ℕ) (exact : Bool) : Type 0 where
     pub allowed : Permitted K M
-    pub eight : length rings ≡ 8
+    pub lengths : exact ≡ true
     pub below : allBelow M rings ≡ true
 
   -- they come before whatever else is tested
-  first-tests :
-      (rings : List ℕ) (more : List (Bool × ℕ))
-      → refusal ((not (permitted K M), 13) ∷ (not (eqb (length rings) 8), 8) ∷ (not (allBelow M rings), 10) ∷ more) ≡ 0
-      → Tested rings × (refusal more ≡ 0)
-  first-tests rings more e =
+  pub first-tests :
+      (rings : List ℕ) (exact : Bool) (more : List (Bool × ℕ))
+      → refusal (rankTests exact K M rings ++ more) ≡ 0 → Tested rings exact × (refusal more ≡ 0)
+  first-tests rings exact more e =
       let e1 = none-rest _ _ _ e in
       let e2 = none-rest _ _ _ e1 in
-      let facts : Tested rings = record {
+      let facts : Tested rings exact = record {
         allowed = permitted-is K M (not-not _ (none-first _ _ _ e));
-        eight = eqb-true (length rings) 8 (not-not _ (none-first _ _ _ e1));
+        lengths = not-not exact (none-first _ _ _ e1);
         below = not-not _ (none-first _ _ _ e2);
       } in
       (facts, none-rest _ _ _ e2)
 
-  pub tested : (rings : List ℕ) → rankTested K M rings ≡ 0 → Tested rings
-  unfolding rankTested
-  tested rings e = first-tests rings [] e .0
-
   -- what it says that the ranker refuses nothing
-  pub rank-accepted : (rings : List ℕ) → rankRefusal K M rings ≡ 0 → Rankable K M rings
+  pub rank-accepted : (rings : List ℕ) → rankRefusal (eqb (length rings) 8) K M rings ≡ 0 → Rankable K M rings
   unfolding rankRefusal
   rank-accepted rings e =
-      let first = first-tests rings _ e in
+      let first = first-tests rings _ _ e in
       let t = first .0 in
-      let below = all-below M rings (t .eight) (t .below) in
+      let eight = eqb-true (length rings) 8 (t .lengths) in
+      let below = all-below M rings eight (t .below) in
       record {
         allowed = t .allowed;
-        eight = t .eight;
+        eight = eight;
         below = below;
         low = rw (standing-is-number M (ofList rings) below) (leb-false (2 ^ K) _ (none-first _ _ _ (first .1)));
       }
 
   -- a first test that refuses is the ranker's refusal
   pub rank-refused :
-      (rings : List ℕ) (n : ℕ) → n ≡ rankTested K M rings → (n ≡ 0 → ⊥)
+      (rings : List ℕ) (n : ℕ) → n ≡ refusal (rankTests (eqb (length rings) 8) K M rings) → (n ≡ 0 → ⊥)
       → record { refusal = n; number = 0 } ≡ rankedOf K M rings
-  unfolding rankedOf rankTested rankRefusal
+  unfolding rankedOf rankRefusal
   rank-refused rings n e h =
-      let same : rankRefusal K M rings ≡ n = given-before _ _ (λ z. h (e ∙ z)) ∙ sym e in
+      let same : rankRefusal (eqb (length rings) 8) K M rings ≡ n = given-before _ _ (λ z. h (e ∙ z)) ∙ sym e in
       rw (same, ne-eqb n 0 h)

@@ -21,7 +21,7 @@ use Rattle.listing.specs.Sets.{Eight, Below8, asList, ofList}
 use Rattle.listing.specs.Order.{standing}
 use Rattle.listing.specs.Number.{ringsOf}
 use Rattle.listing.proofs.Agree.{rings-below, counting-is-listing, standing-is-number}
-use Rattle.rings.specs.Answers.{Permitted, mappedRings, mapRefusal, mapOut, MapAnswer, rankRefusal, rankedOf}
+use Rattle.rings.specs.Mapping.{Permitted, mappedRings, mapRefusal, mapOut, MapAnswer, rankRefusal, rankedOf}
 use Rattle.rings.specs.declared.entry.Ranked.{Ranked}
 use Rattle.rings.proofs.Acceptance.{mapper-accepts, ranker-accepts}
 use Rattle.rings.proofs.Tests.{is-permitted, below-all, ofList-asList, asList-ofList}

@@ -7,6 +7,8 @@ use native.Mathlib.Nat.{pow-le-pow-left}
 use native.Mathlib.Decide.{decLe}
 use native.Mathlib.Omega.{arith}
 use lib.ListN.{length}
+use mir.Syntax.{w64}
+use mir.Val.{Fits}
 use Rattle.laws.specs.Largest.{largest}
 use Rattle.laws.specs.Sum.{sum}
 use Rattle.laws.proofs.Largests.{Within, largest-le, largest-within}
@@ -14,13 +16,15 @@ use Rattle.laws.proofs.Rising.{largest-same}
 use Rattle.laws.proofs.Sums.{sum-zero, sum-rises, sum-mono}
 use Rattle.listing.specs.Counts.{g4, g8, z8, lighter}
 use Rattle.listing.specs.Number.{ringsOf, fourAt, placeOfFour, number}
-use Rattle.listing.specs.Sets.{Eight, Below8, weight4, weight8}
+use Rattle.listing.specs.Sets.{Eight, Below8, weight4, weight8, m1, m2, m3, m4, m5, m6, m7, m8}
 use Rattle.listing.proofs.Agree.{z8-all, heaviest, number-below-all}
 use Rattle.listing.proofs.CountLaws.{g4-ends}
 use Rattle.listing.proofs.Halves.{Halved, halved}
-use Rattle.rings.specs.Counts.{at, Known, EightRows, Ascending, Summable, Locatable, locatedOf}
+use Rattle.counts.specs.Counts.{at, Known, EightRows}
+use Rattle.counts.specs.Located.{locatedOf}
 use Rattle.rings.specs.Parts.{halvesOf}
-use Rattle.rings.specs.declared.locate.Located.{Located}
+use Rattle.counts.specs.Requires.{Ascending, Summable, Locatable}
+use Rattle.counts.specs.declared.places.Located.{Located}
 use Rattle.rings.specs.declared.number.Halves.{Halves}
 
 -- M^8 is at most 18^8, which has 34 bits
@@ -83,7 +87,9 @@ module _ (M S : ℕ) (below : S < M ^ 8) where
     pub within : h .«first_weight» ≤ h .weight
     pub first : h .«first_place» < g4 M (h .«first_weight»)
     pub second : h .«second_place» < g4 M (h .weight - h .«first_weight»)
-    pub whole : ringsOf M S ≡ (fourAt M (h .«first_weight») (h .«first_place»), fourAt M (h .weight - h .«first_weight») (h .«second_place»))
+    pub whole :
+        ringsOf M S
+        ≡ (fourAt M (h .«first_weight») (h .«first_place»), fourAt M (h .weight - h .«first_weight») (h .«second_place»))
 
   pub halfway : Halfway (halvesOf M S)
   unfolding halvesOf ringsOf fourAt weight rest g8
@@ -136,11 +142,17 @@ module _ (M S : ℕ) (below : S < M ^ 8) where
         (record { weight = x .at; «first_weight» = y .at; «first_place» = y .rest % count; «second_place» = y .rest / count })
         (halvesOf M S)
 
-  split8-here : Known M → Split8 (record { at = weight; rest = rest }) (locatedOf (lighter (g4 M) weight) rest weight) (g4 M (largest (lighter (g4 M) weight) rest weight))
+  -- over the counts themselves, and then over rows of them
+  abbrev Split8Here : Type 0
+  Split8Here =
+      let found = locatedOf (lighter (g4 M) weight) rest weight in
+      Split8 (record { at = weight; rest = rest }) found (g4 M (found .at))
+
+  split8-here : Known M → Split8Here
   unfolding locatedOf halvesOf weight rest g8
   split8-here known = go (halved (g4 M) weight rest rest-below)
     where
-      go : Halved (g4 M) weight rest → Split8 (record { at = weight; rest = rest }) (locatedOf (lighter (g4 M) weight) rest weight) (g4 M (largest (lighter (g4 M) weight) rest weight))
+      go : Halved (g4 M) weight rest → Split8Here
       go k =
           let t = weight-top in
           record { inside = omega (arith, k .least, known .high); some = omega (arith, k .first); whole = refl }
@@ -156,6 +168,36 @@ module _ (M S : ℕ) (below : S < M ^ 8) where
   split8 g x y known same e found =
       let whole : x ≡ record { at = weight; rest = rest } = ap₂ (λ (a r : ℕ). record { at = a; rest = r }) (e .0) (e .1) in
       rw (found, whole, same) (split8-here known)
+
+-- the sums on the way to the two weights, as the code adds them up: none is above the heaviest set's of M = 18
+pub record SmallSums (x : Eight) : Type 0 where
+  pub rings : Below8 137 x
+  pub front2 : m1 x + m2 x < 137
+  pub front3 : m1 x + m2 x + m3 x < 137
+  pub front : m1 x + m2 x + m3 x + m4 x < 137
+  pub back2 : m5 x + m6 x < 137
+  pub back3 : m5 x + m6 x + m7 x < 137
+  pub back : m5 x + m6 x + m7 x + m8 x < 137
+  pub all : m1 x + m2 x + m3 x + m4 x + (m5 x + m6 x + m7 x + m8 x) < 137
+
+small-sums : (x : Eight) → weight8 x ≤ 136 → SmallSums x
+small-sums x h = omega arith
+
+-- such a sum, and where it stands in a row of words, fit 64 bits
+pub sum-fits : {n : ℕ} → n < 137 → Fits w64 n
+sum-fits h = omega arith
+
+pub index-fits : {n : ℕ} → n < 137 → Fits w64 (n * 8)
+index-fits h = omega arith
+
+-- and so does each part of a number
+pub parts-fit :
+    (lower passed product first : ℕ) → lower + (passed + (product + first)) < 11019960576
+    → Fits w64 product
+    × Fits w64 (product + first)
+    × Fits w64 (passed + (product + first))
+    × Fits w64 (lower + (passed + (product + first)))
+parts-fit lower passed product first h = omega arith
 
 -- the number of a set, from its parts: none is larger than the whole, and that has 34 bits
 module _ (M : ℕ) (fourRow lighterRow : List ℕ) (x : Eight) (k : EightRows M fourRow lighterRow) (below : Below8 M x) where
@@ -181,16 +223,21 @@ module _ (M : ℕ) (fourRow lighterRow : List ℕ) (x : Eight) (k : EightRows M 
   pub weights-inside : weight8 x ≤ 136
   weights-inside = let h = heaviest M x below in let m = k .known .high in omega arith
 
-  pub summable8 : length fourRow ≡ 137 → Summable fourRow (weight8 x) (weight4 (x .0))
+  pub sums-small : SmallSums x
+  sums-small = small-sums x weights-inside
+
+  pub summable8 :
+      (front back : ℕ) → front ≡ weight4 (x .0) → back ≡ weight4 (x .1) → length fourRow ≡ 137 → Summable fourRow (front + back) front
   unfolding g8 lighter
-  summable8 long =
+  summable8 front back e1 e2 long =
       let w = weights-inside in
       let h = heaviest M x below in
       let p = power-bound M (k .known) in
       let g = g8-bound M (weight8 x) h in
       let s = sum-mono (λ p. g4 M p * g4 M (weight8 x - p)) (weight4 (x .0)) (suc (weight8 x)) (omega arith) in
-      record {
+      rw (e1, e2)
+      (record {
         inside = omega arith;
         upTo = omega arith;
         fits = subst (λ (f : ℕ → ℕ). lighter f (weight8 x) (weight4 (x .0)) < 2 ^ 64) (sym (k .fours)) (omega arith);
-      }
+      })

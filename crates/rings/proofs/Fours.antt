@@ -11,8 +11,10 @@ use Rattle.listing.specs.Number.{pairAt, fourAt, placeOfPair, placeOfFour}
 use Rattle.listing.specs.Sets.{Pair, Four, Below2, Below4, weight2, weight4}
 use Rattle.listing.proofs.Bounds.{g2-bound, lighter-bound, placeOfPair-bound}
 use Rattle.listing.proofs.Halves.{firstWeight, restOf, Halved, halved}
-use Rattle.rings.specs.Counts.{at, Known, Locatable, Summable, locatedOf}
-use Rattle.rings.specs.declared.locate.Located.{Located}
+use Rattle.counts.specs.Counts.{at, Known}
+use Rattle.counts.specs.Located.{locatedOf}
+use Rattle.counts.specs.Requires.{Locatable, Summable}
+use Rattle.counts.specs.declared.places.Located.{Located}
 
 -- how large counts, sums of products and one product can be
 module _ (M : ℕ) (g : ℕ → ℕ) (known : Known M) (same : g ≡ g2 M) where

@@ -1,19 +1,13 @@
 -- What the proofs of several functions share, and demand 3.
 --     Tests       what the tests of the entries say
---     Places      what the code found is what the specs say
 --     Fours       what fours of rings need of the row of pairs
 --     Eights      what eight rings need of the counts
---     Filled      a row of zeros that is filled from the front
---     Lighters    the rows of the table, and where each stands
 --     Answering   what the functions need of the entries' answers
 --     Acceptance  which calls the entries answer with 0
 --     Demand3     demand 3 over the entries' answers, and that at most one outcome fits
 --     Starred     the cases that document 01 marks as proved
 pub mod Tests
-pub mod Places
 pub mod Fours
-pub mod Filled
-pub mod Lighters
 pub mod Eights
 pub mod Answering
 pub mod Acceptance

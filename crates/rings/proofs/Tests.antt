@@ -11,8 +11,8 @@ use lib.Seq.{drop-cons}
 use native.Mathlib.Numerals.{add-one}
 use borrow.Author.Tests.{leb-true, le-leb, ltb-true, lt-ltb, le-ltb}
 use Rattle.laws.proofs.Bools.{and-left, and-right, and-parts}
-use Rattle.listing.specs.Sets.{Eight, Below8, asList, ofList}
-use Rattle.rings.specs.Answers.{Permitted, permitted, allBelow}
+use Rattle.listing.specs.Sets.{Eight, Below4, Below8, asList, ofList}
+use Rattle.rings.specs.Mapping.{Permitted, permitted, allBelow}
 
 pub permitted-is : (K M : ℕ) → permitted K M ≡ true → Permitted K M
 unfolding permitted
@@ -47,7 +47,9 @@ pub all-below : (M : ℕ) (l : List ℕ) → length l ≡ 8 → allBelow M l ≡
 unfolding ofList
 all-below M l n e =
     let at : (i : ℕ) → i < 8 → getD l i 0 < M = λ i h. ring-below M l e i (omega arith) in
-    (((at 0 (omega arith), at 1 (omega arith)), (at 2 (omega arith), at 3 (omega arith))), ((at 4 (omega arith), at 5 (omega arith)), (at 6 (omega arith), at 7 (omega arith))))
+    let four : (i : ℕ) → i ≤ 4 → Below4 M ((getD l i 0, getD l (i + 1) 0), (getD l (i + 2) 0, getD l (i + 3) 0)) =
+    λ i h. ((at i (omega arith), at (i + 1) (omega arith)), (at (i + 2) (omega arith), at (i + 3) (omega arith))) in
+    (four 0 (omega arith), four 4 (omega arith))
 
 pub ofList-asList : (x : Eight) → ofList (asList x) ≡ x
 unfolding ofList

@@ -1,4 +1,4 @@
--- Pairs and fours of rings as the code holds them.
+-- Pairs and fours of rings, and what is found on the way to them, as the code holds them.
 use Prim.Native.Nat.{ℕ, _*_, _-_, _/_, _%_}
 use Rattle.laws.specs.Largest.{largest}
 use Rattle.listing.specs.Counts.{g4, z8, lighter}

@@ -1,7 +1,10 @@
 // The tests of the entries, one for each refusal, and the refusals in their order.
 ghost use mathlib.Core.Path.{_≡_};
 ghost use Prim.Native.Nat.{_^_, _≤_};
-ghost use Rattle.rings.specs.Answers.{permitted, allBelow, mapRefusal, rankTested};
+ghost use lib.Dec.{eqb};
+ghost use lib.ListN.{length};
+ghost use Rattle.laws.specs.Choice.{refusal};
+ghost use Rattle.rings.specs.Mapping.{permitted, allBelow, mapRefusal, rankTests};
 
 // m^8, by three squarings.
 pub fn eighth_power(m: u64) -> u64
@@ -59,9 +62,9 @@ pub fn map_refusal(k: u64, m: u64, s: u64, lent: usize) -> u64
     14
 }
 
-// The refusals that the ranker tests before it ranks, 0 where none holds.
+// The refusal of the tests that the ranker makes before it ranks, 0 where none holds.
 pub fn rank_tested(k: u64, m: u64, rings: &[u8]) -> u64
-    ensures { λ r. ⌜ r ≡ rankTested k m (now (rings .entry)) ⌝ }
+    ensures { λ r. ⌜ r ≡ refusal (rankTests (eqb (length (now (rings .entry))) 8) k m (now (rings .entry))) ⌝ }
 {
     if !is_permitted(k, m) {
         return 13;

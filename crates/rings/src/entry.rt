@@ -1,13 +1,13 @@
 // The two entries, for whatever they are given (document 01, "What comes back").
 ghost use mathlib.Core.Path.{_≡_};
 ghost use lib.ListN.{length};
-ghost use Rattle.rings.specs.Answers.{MapAnswer, rankedOf};
+ghost use Rattle.rings.specs.Mapping.{MapAnswer, rankedOf};
 use crate::check::map_refusal;
 use crate::check::rank_tested;
-use crate::counts::counts_of;
 use crate::number::Rings;
 use crate::number::number_of;
 use crate::number::rings_of;
+use counts::counts_of;
 
 // The ranker's answer: 0 and the number, or the refusal and 0.
 pub struct Ranked {

@@ -1,17 +1,16 @@
 // Fours of rings: the four at a place among those of its sum, and the place of a four (clause 9.4, steps 5 and 6).
 ghost use mathlib.Core.Path.{_≡_};
 ghost use Prim.Native.Nat.{_≤_, _<_};
-ghost use lib.ListN.{length};
 ghost use Rattle.listing.specs.Counts.{g2, g4};
 ghost use Rattle.listing.specs.Number.{fourAt, placeOfFour};
-ghost use Rattle.listing.specs.Sets.{Below4, weight4};
-ghost use Rattle.rings.specs.Counts.{at, Known};
+ghost use Rattle.listing.specs.Sets.{Below4};
+ghost use Rattle.counts.specs.Counts.{at, Known};
 ghost use Rattle.rings.specs.Parts.{fourOf};
-use crate::locate::lighter_sum;
-use crate::locate::locate;
 use crate::pair::PairOfRings;
 use crate::pair::pair_at;
 use crate::pair::place_of_pair;
+use counts::lighter_sum;
+use counts::locate;
 
 pub struct FourRings {
     pub first: PairOfRings,
@@ -34,25 +33,15 @@ pub fn four_at(m: u64, pairs: &[u64; 69], t: usize, i: u64) -> FourRings
 }
 
 // The place of a four among those of its sum.
-pub fn place_of_four(m: u64, pairs: &[u64; 69], x: FourRings) -> u64
+pub fn place_of_four(m: u64, pairs: &[u64; 69], m1: u64, m2: u64, m3: u64, m4: u64) -> u64
     requires { ⌜ Known m ⌝ }
     requires { ⌜ at (now pairs) ≡ g2 m ⌝ }
-    requires { ⌜ Below4 m (fourOf x) ⌝ }
-    ensures { λ r. ⌜ r ≡ placeOfFour m (fourOf x) ⌝ }
+    requires { ⌜ Below4 m ((m1, m2), (m3, m4)) ⌝ }
+    ensures { λ r. ⌜ r ≡ placeOfFour m ((m1, m2), (m3, m4)) ⌝ }
 {
-    let c = (x.first.first + x.first.second) as usize;
-    let t = c + (x.second.first + x.second.second) as usize;
-    let first = place_of_pair(m, x.first.first, x.first.second);
-    let second = place_of_pair(m, x.second.first, x.second.second);
+    let c = (m1 + m2) as usize;
+    let t = c + (m3 + m4) as usize;
+    let first = place_of_pair(m, m1, m2);
+    let second = place_of_pair(m, m3, m4);
     lighter_sum(pairs, t, c) + (second * pairs[c] + first)
-}
-
-// The sum of a four, small enough that no sum wraps.
-pub fn weight_of_four(x: FourRings) -> usize
-    requires { ⌜ Below4 18 (fourOf x) ⌝ }
-    ensures { λ r. ⌜ r ≡ weight4 (fourOf x) ⌝ }
-{
-    let first = x.first.first + x.first.second;
-    let second = x.second.first + x.second.second;
-    (first + second) as usize
 }

@@ -2,19 +2,15 @@
 //
 // What does it do? `map` turns a number S below 2^K into eight rings below M, `rank` turns eight rings back into their number,
 // and each refuses whatever else it is given.
-// How does it work? `counts_of` lays out how many pairs and fours of rings have each sum, and how many eights are lighter, once
-// for an M. `rings_of` and `number_of` go by these counts, for many numbers of one M; `map` and `rank` are thin over them.
+// How does it work? The crate `counts` lays out how many pairs and fours of rings have each sum, and how many eights are lighter, once
+// for an M, and finds places among these counts. `rings_of` and `number_of` go by them, for many numbers of one M; `map` and `rank` are
+// thin over the two.
 pub mod check;
-pub mod counts;
 pub mod entry;
 pub mod four;
-pub mod locate;
 pub mod number;
 pub mod pair;
-mod table;
 
-pub use counts::Counts;
-pub use counts::counts_of;
 pub use entry::Ranked;
 pub use entry::map;
 pub use entry::rank;

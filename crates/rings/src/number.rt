@@ -3,16 +3,13 @@ ghost use mathlib.Core.Path.{_≡_};
 ghost use Prim.Native.Nat.{_^_, _<_};
 ghost use Rattle.listing.specs.Number.{ringsOf, number};
 ghost use Rattle.listing.specs.Sets.{Below8, asList, ofList};
-ghost use Rattle.rings.specs.Counts.{EightRows, Rows};
-ghost use Rattle.rings.specs.Parts.{fourOf, halvesOf};
-use crate::four::FourRings;
+ghost use Rattle.counts.specs.Counts.{EightRows, Rows};
+ghost use Rattle.rings.specs.Parts.{halvesOf};
 use crate::four::four_at;
 use crate::four::place_of_four;
-use crate::four::weight_of_four;
-use crate::locate::lighter_sum;
-use crate::locate::locate;
-use crate::locate::locate_weight;
-use crate::pair::PairOfRings;
+use counts::lighter_sum;
+use counts::locate;
+use counts::locate_weight;
 
 // m1 to m8.
 pub struct Rings {
@@ -76,42 +73,6 @@ pub fn rings_of<'a>(
     }
 }
 
-// Four rings as numbers.
-fn four_from(m1: u8, m2: u8, m3: u8, m4: u8) -> FourRings
-    ensures { λ r. ⌜ fourOf r ≡ ((m1, m2), (m3, m4)) ⌝ }
-{
-    FourRings {
-        first: PairOfRings {
-            first: m1 as u64,
-            second: m2 as u64,
-        },
-        second: PairOfRings {
-            first: m3 as u64,
-            second: m4 as u64,
-        },
-    }
-}
-
-// The number of two fours.
-fn number_of_fours<'a>(
-    m: u64,
-    pairs: &'a [u64; 69],
-    fours: &'a [u64; 137],
-    lighter: &'a [u64; 137],
-    front: FourRings,
-    back: FourRings,
-) -> u64
-    requires { ⌜ Rows m (now pairs) (now fours) (now lighter) ⌝ }
-    requires { ⌜ Below8 m (fourOf front, fourOf back) ⌝ }
-    ensures { λ r. ⌜ r ≡ number m (fourOf front, fourOf back) ⌝ }
-{
-    let b = weight_of_four(front);
-    let a = b + weight_of_four(back);
-    let first = place_of_four(m, pairs, front);
-    let second = place_of_four(m, pairs, back);
-    lighter[a] + (lighter_sum(fours, a, b) + (second * fours[b] + first))
-}
-
 // The number of eight rings, over the rows of the counts of m.
 pub fn number_of<'a>(
     m: u64,
@@ -124,7 +85,17 @@ pub fn number_of<'a>(
     requires { ⌜ Below8 m (ofList (x .ring)) ⌝ }
     ensures { λ r. ⌜ r ≡ number m (ofList (x .ring)) ⌝ }
 {
-    let front = four_from(x.ring[0], x.ring[1], x.ring[2], x.ring[3]);
-    let back = four_from(x.ring[4], x.ring[5], x.ring[6], x.ring[7]);
-    number_of_fours(m, pairs, fours, lighter, front, back)
+    let m1 = x.ring[0] as u64;
+    let m2 = x.ring[1] as u64;
+    let m3 = x.ring[2] as u64;
+    let m4 = x.ring[3] as u64;
+    let m5 = x.ring[4] as u64;
+    let m6 = x.ring[5] as u64;
+    let m7 = x.ring[6] as u64;
+    let m8 = x.ring[7] as u64;
+    let b = (m1 + m2 + m3 + m4) as usize;
+    let a = b + (m5 + m6 + m7 + m8) as usize;
+    let first = place_of_four(m, pairs, m1, m2, m3, m4);
+    let second = place_of_four(m, pairs, m5, m6, m7, m8);
+    lighter[a] + (lighter_sum(fours, a, b) + (second * fours[b] + first))
 }

@@ -1,10 +1,10 @@
 // Labels that are damaged, one data frame for each legal setting with mark 1: how many get which number.
-use crate::draw::bits_from;
-use crate::part::read_part;
-use crate::part::write_part;
 use crate::tally::say;
-use crate::tally::setting_of;
 use crate::tally::text;
+use trials::bits_from;
+use trials::read_part;
+use trials::setting_of;
+use trials::write_part;
 
 // What is done to the labels.
 pub enum Damage {

@@ -2,8 +2,6 @@
 // in a row from several states, with bits, labels and states compared; and labels that are damaged, so that each refusal of the reader is
 // met. Its expected output is written by hand: it says how many must agree.
 mod damage;
-mod draw;
-mod part;
 mod round;
 mod tally;
 

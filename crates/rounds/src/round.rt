@@ -1,13 +1,14 @@
 // One data frame there and back, and there again.
-use crate::draw::bits_from;
-use crate::part::read_part;
-use crate::part::same_labels;
-use crate::part::same_part;
-use crate::part::write_part;
 use coder::Coded;
 use coder::State;
+use line::Asked;
+use trials::bits_from;
+use trials::read_part;
+use trials::same_labels;
+use trials::same_part;
+use trials::write_part;
 
-fn same_state(a: State, b: State) -> bool {
+fn same_asked(a: Asked, b: Asked) -> bool {
     if a.role != b.role {
         return false;
     }
@@ -20,7 +21,13 @@ fn same_state(a: State, b: State) -> bool {
     if a.shaping != b.shaping {
         return false;
     }
-    if a.mark != b.mark {
+    a.mark == b.mark
+}
+
+fn same_state(a: State, b: State) -> bool {
+    let one = a.asked;
+    let other = b.asked;
+    if !same_asked(one, other) {
         return false;
     }
     if a.register != b.register {

@@ -6,7 +6,7 @@ use Prim.Native.Nat.{ℕ, suc, _+_, _*_, _%_, _/_, _^_, _≤_, _<_}
 use native.Mathlib.Nat.{mod-lt}
 use native.Mathlib.Omega.{arith}
 use lib.ListN.{length}
-use Rattle.laws.specs.Digits.{Bits}
+use Rattle.bits.specs.Digits.{Bits}
 use Rattle.scrambler.specs.Scrambler.{placeBack, nearPlace, scrambledBit, push, pushAll, scramble, descramble}
 
 -- a place of the register is a bit
@@ -67,4 +67,5 @@ unfolding scramble descramble
 scramble-descramble role register [] h = refl
 scramble-descramble role register (out ∷ outs) h =
     ap₂ (λ (o : ℕ) (r : List ℕ). o ∷ r) (bit-back role register out (h .0))
-    (ap (λ (o : ℕ). scramble role (push register o) (descramble role (push register out) outs)) (bit-back role register out (h .0)) ∙ scramble-descramble role (push register out) outs (h .1))
+    (ap (λ (o : ℕ). scramble role (push register o) (descramble role (push register out) outs)) (bit-back role register out (h .0))
+    ∙ scramble-descramble role (push register out) outs (h .1))

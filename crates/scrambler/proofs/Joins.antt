@@ -11,7 +11,8 @@ pushAll-append register [] b = refl
 pushAll-append register (bit ∷ a) b = pushAll-append (push register bit) a b
 
 pub descramble-append :
-    (role register : ℕ) (a b : List ℕ) → descramble role register (a ++ b) ≡ descramble role register a ++ descramble role (pushAll register a) b
+    (role register : ℕ) (a b : List ℕ)
+    → descramble role register (a ++ b) ≡ descramble role register a ++ descramble role (pushAll register a) b
 unfolding descramble pushAll
 descramble-append role register [] b = refl
 descramble-append role register (out ∷ a) b =

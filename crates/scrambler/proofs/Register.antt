@@ -7,7 +7,7 @@ use native.Mathlib.Decide.{decLe}
 use native.Mathlib.Omega.{arith}
 use lib.ListN.{length, getD}
 use lib.Pow.{field, mod-mod-pow, shr-shr}
-use Rattle.laws.specs.Digits.{Bits}
+use Rattle.bits.specs.Digits.{Bits}
 use Rattle.scrambler.specs.Scrambler.{placeBack, push, pushAll}
 
 -- one place back is the bit pushed last

@@ -1,16 +1,9 @@
 -- The scrambler and its inverse over slices: as many bits as are given, at the start of a slice that is at least as long.
 use mathlib.Core.List.{List, _++_}
 use mathlib.Core.Path.{_≡_}
-use Prim.Native.Nat.{ℕ, _^_, _≤_, _<_}
+use Prim.Native.Nat.{ℕ}
 use lib.ListN.{length, drop}
-use Rattle.laws.specs.Digits.{Bits}
 use Rattle.scrambler.specs.Scrambler.{scramble, descramble, pushAll}
-
--- what has to hold: the register is one, the bits are bits, and there is room
-pub record Part (register : ℕ) (bits out : List ℕ) : Type 0 where
-  pub small : register < 2 ^ 23
-  pub binary : Bits bits
-  pub room : length bits ≤ length out
 
 -- what the slice then holds, and the register after
 pub record Scrambled (role register : ℕ) (bits out : List ℕ) (after : ℕ) (held-now : List ℕ) : Type 0 where

@@ -5,7 +5,8 @@
 // How does it work? The last 23 output bits are one number, the register; a step takes two of its bits and pushes one in.
 ghost use mathlib.Core.Path.{_≡_};
 ghost use Prim.Native.Nat.{_≤_, _<_, _^_};
-ghost use Rattle.scrambler.specs.Parts.{Part, Scrambled, Descrambled};
+ghost use Rattle.scrambler.specs.Parts.{Scrambled, Descrambled};
+ghost use Rattle.scrambler.specs.Requires.{Part};
 ghost use Rattle.scrambler.specs.Scrambler.{scrambledBit, push};
 
 // The scrambled bit for a bit, or the bit for a scrambled bit: the two are one sum.

@@ -1,7 +1,7 @@
--- Which inputs the settings program answers with a line of values (document 01, "Settings program"): exactly those of five bytes that
--- are right. Of these the line is N P b r K q M L in decimal with one space between, and begins with a digit; of any other it is
--- `refused`, a space and the number, and begins with the letter r, byte 114. So the first byte that is printed tells the two apart,
--- and it does so in whatever buffer fits the contract of `answer`. Assumes nothing.
+-- Which inputs the settings program answers with a line of values (document 01, "Settings program"): exactly those of a byte for each
+-- setting that are right. Of these the line is N P b r K q M L in decimal with one space between, and begins with a digit; of any
+-- other it is `refused`, a space and the number, and begins with the letter r, byte 114. So the first byte that is printed tells the
+-- two apart, and it does so in whatever buffer fits the contract of `answer`. Assumes nothing.
 use mathlib.Core.Bool.{Bool, true, false, cond}
 use mathlib.Core.List.{List, [], _∷_, _++_, append-assoc}
 use mathlib.Core.Logic.{_↔_}
@@ -17,40 +17,35 @@ use Rattle.line.specs.declared.settings.Worked.the-variants.{Accepted, Refused}
 use Rattle.line.specs.Settings.{workedOf, valuesOf}
 use Rattle.line.proofs.Acceptance.{Right, accepted-when as worked-when}
 use Rattle.settings.specs.Decimal.{decimal}
-use Rattle.settings.specs.Lines.{fiveBytes, answerOf, joined, refusedWord, textOf, ended, lineOf, Answers}
+use Rattle.settings.specs.Lines.{taken, exactInput, askedIn, answerOf, joined, refusedWord, textOf, ended, lineOf, Answers}
 use Rattle.settings.proofs.Decimals.{Digit, decimal-right}
 use Rattle.settings.proofs.Joins.{spaced-one}
 use Rattle.settings.proofs.Fitting.{ended-length}
 
--- five bytes that are right: role, s, n, shaping and mark
+-- a byte for each setting, and these are right
 pub record Stated (input : List ℕ) : Type 0 where
-  pub five : length input ≡ 5
-  pub right : Right (getD input 0 0) (getD input 1 0) (getD input 2 0) (getD input 3 0) (getD input 4 0)
+  pub exact : length input ≡ taken
+  pub right : Right (askedIn input)
 
 -- the test of the length
-five-passes : (input : List ℕ) → length input ≡ 5 → fiveBytes input ≡ true
-five-passes input e = eq-eqb (length input) 5 e
+exact-passes : (input : List ℕ) → length input ≡ taken → exactInput input ≡ true
+exact-passes input e = eq-eqb (length input) taken e
 
-passes-five : (input : List ℕ) → fiveBytes input ≡ true → length input ≡ 5
-passes-five input e = eqb-true (length input) 5 e
+passes-exact : (input : List ℕ) → exactInput input ≡ true → length input ≡ taken
+passes-exact input e = eqb-true (length input) taken e
 
--- five bytes are answered as they are worked out
-five-worked :
-    (input : List ℕ) → length input ≡ 5
-    → answerOf input ≡ workedOf (getD input 0 0) (getD input 1 0) (getD input 2 0) (getD input 3 0) (getD input 4 0)
+-- such an input is answered as it is worked out
+exact-worked : (input : List ℕ) → length input ≡ taken → answerOf input ≡ workedOf (askedIn input)
 unfolding answerOf
-five-worked input e = rw (five-passes input e)
+exact-worked input e = rw (exact-passes input e)
 
 -- and nothing else is accepted
-accepted-five : (input : List ℕ) (c : Settings) → answerOf input ≡ Accepted c → length input ≡ 5
+accepted-exact : (input : List ℕ) (c : Settings) → answerOf input ≡ Accepted c → length input ≡ taken
 unfolding answerOf
-accepted-five input c e = go (fiveBytes input) refl e
+accepted-exact input c e = go (exactInput input) refl e
   where
-    go :
-        (v : Bool) → fiveBytes input ≡ v
-        → cond v (workedOf (getD input 0 0) (getD input 1 0) (getD input 2 0) (getD input 3 0) (getD input 4 0)) (Refused 8) ≡ Accepted c
-        → length input ≡ 5
-    go true p q = passes-five input p
+    go : (v : Bool) → exactInput input ≡ v → cond v (workedOf (askedIn input)) (Refused 8) ≡ Accepted c → length input ≡ taken
+    go true p q = passes-exact input p
     go false p q = absurd (let z : _≡_ {A = ℕ} 0 1 = cc in omega arith)
 
 -- accepted exactly when it should be
@@ -59,11 +54,11 @@ accepted-when input = (forth, back)
   where
     forth : (c : Settings) × (answerOf input ≡ Accepted c) → Stated input
     forth p =
-        let five = accepted-five input (p .0) (p .1) in
-        record { five = five; right = worked-when _ _ _ _ _ .0 (p .0, sym (five-worked input five) ∙ p .1) }
+        let exact = accepted-exact input (p .0) (p .1) in
+        record { exact = exact; right = worked-when _ .0 (p .0, sym (exact-worked input exact) ∙ p .1) }
 
     back : Stated input → (c : Settings) × (answerOf input ≡ Accepted c)
-    back s = let p = worked-when _ _ _ _ _ .1 (s .right) in (p .0, five-worked input (s .five) ∙ p .1)
+    back s = let p = worked-when _ .1 (s .right) in (p .0, exact-worked input (s .exact) ∙ p .1)
 
 -- the line of each kind of answer
 accepted-line : (input : List ℕ) (c : Settings) → answerOf input ≡ Accepted c → lineOf input ≡ ended (joined (valuesOf (Accepted c)))
@@ -104,7 +99,7 @@ values-first c =
     let n = decimal-right (c .bits) in
     rw append-assoc (first-digit (decimal (c .bits)) _ (n .some) (n .each))
 
--- the line begins with another byte than r exactly when the input is five bytes that are right
+-- the line begins with another byte than r exactly when the input is a byte for each setting and these are right
 pub printed-when : (input : List ℕ) → (getD (lineOf input) 0 0 ≡ 114 → ⊥) ↔ Stated input
 unfolding ended
 printed-when input = go (answerOf input) refl

@@ -84,7 +84,8 @@ limit-enough (suc f) (suc g) n h k = go (oneDigit n) refl (λ a b. limit-enough 
   where
     go :
         (v : Bool) → oneDigit n ≡ v → (n / 10 < f → n / 10 < g → digits f (n / 10) ≡ digits g (n / 10))
-        → cond v (digit n ∷ []) (digits f (n / 10) ++ digit (n % 10) ∷ []) ≡ cond v (digit n ∷ []) (digits g (n / 10) ++ digit (n % 10) ∷ [])
+        → cond v (digit n ∷ []) (digits f (n / 10) ++ digit (n % 10) ∷ [])
+        ≡ cond v (digit n ∷ []) (digits g (n / 10) ++ digit (n % 10) ∷ [])
     go true e same = refl
     go false e same =
         let l = ltb-false n _ e in
@@ -138,9 +139,14 @@ only-last (suc m) front d n e s =
     let lead : getD front 0 48 ≡ 48 → ⊥ = λ z. nonzero (s .first (List·getD-append front (d ∷ []) 48 0 (omega arith) ∙ z)) in
     let each : Every Digit front = every-left Digit front (d ∷ []) (s .each) in
     let some : 1 ≤ value front = read-some front each lead in
-    let inner : Spells (value front) front = record { reads = refl; some = omega arith; each = each; first = λ z. absurd (lead z); alone = λ z. absurd (omega arith) } in
+    let inner : Spells (value front) front =
+    record { reads = refl; some = omega arith; each = each; first = λ z. absurd (lead z); alone = λ z. absurd (omega arith) }
+    in
     let split = last-split m front e in
-    let tenth = split ∙ only-last m (take m front) (getD front m 0) (value front) (length-take-le m front (omega arith)) (subst (Spells (value front)) split inner) in
+    let size = length-take-le m front (omega arith) in
+    let tenth =
+    split ∙ only-last m (take m front) (getD front m 0) (value front) size (subst (Spells (value front)) split inner)
+    in
     let reads : n ≡ value front * 10 + (d - 48) = sym (s .reads) ∙ read-last 0 front d in
     let last = every-right Digit front (d ∷ []) (s .each) in
     let over : value front ≡ n / 10 = omega (arith, last .0) in
@@ -151,8 +157,10 @@ only-last (suc m) front d n e s =
 pub only-decimal : (ds : List ℕ) (n : ℕ) → Spells n ds → ds ≡ decimal n
 only-decimal [] n s = absurd (omega (arith, s .some))
 only-decimal (d ∷ ds) n s =
-    let split = last-split (length ds) (d ∷ ds) refl in
-    split ∙ only-last (length ds) (take (length ds) (d ∷ ds)) (getD (d ∷ ds) (length ds) 0) n (length-take-le (length ds) (d ∷ ds) (omega arith)) (subst (Spells n) split s)
+    let m = length ds in
+    let split = last-split m (d ∷ ds) refl in
+    let size = length-take-le m (d ∷ ds) (omega arith) in
+    split ∙ only-last m (take m (d ∷ ds)) (getD (d ∷ ds) m 0) n size (subst (Spells n) split s)
 
 -- a number below a power of ten has no more digits than the power has zeros
 pub decimal-length : (k n : ℕ) → n < 10 ^ suc k → length (decimal n) ≤ suc k

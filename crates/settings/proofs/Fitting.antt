@@ -1,20 +1,21 @@
 -- Every line fits into 40 bytes: no value of accepted settings has more than four digits, and each of the eight has a space or the
--- line feed behind it; no refusal is above 8. Assumes nothing.
+-- line feed behind it; nor has a refusal more digits. Assumes nothing.
 use mathlib.Core.Bool.{Bool, true, false, cond}
 use mathlib.Core.List.{List, [], _∷_}
-use mathlib.Core.Path.{_≡_, refl, sym, ap, _∙_}
+use mathlib.Core.Path.{_≡_, refl, ap}
 use Prim.Native.Nat.{ℕ, _+_, _≤_}
 use native.Mathlib.Omega.{arith}
-use lib.ListN.{length, getD, length-append}
+use lib.ListN.{length, length-append}
 use Rattle.laws.specs.Lists.{Every}
-use Rattle.laws.proofs.Choices.{refusal-most}
+use Rattle.laws.proofs.Counting.{every-imp}
+use Rattle.line.specs.declared.asked.Asked.{Asked}
 use Rattle.line.specs.declared.settings.Settings.{Settings}
 use Rattle.line.specs.declared.settings.Worked.{Worked}
 use Rattle.line.specs.declared.settings.Worked.the-variants.{Accepted, Refused}
-use Rattle.line.specs.Settings.{settingsRefusal, refusals, workedOf, numberOf, valuesOf}
-use Rattle.line.proofs.Acceptance.{number-is}
-use Rattle.line.proofs.Soundness.{Sound, accepted-sound}
-use Rattle.settings.specs.Lines.{fiveBytes, answerOf, spaced, refusedWord, textOf, ended, lineOf}
+use Rattle.line.specs.Settings.{workedOf, numberOf, valuesOf}
+use Rattle.line.proofs.Acceptance.{number-most}
+use Rattle.line.proofs.Soundness.{Sound, accepted-sound, values-most}
+use Rattle.settings.specs.Lines.{exactInput, askedIn, answerOf, spaced, refusedWord, textOf, ended, lineOf}
 use Rattle.settings.proofs.Joins.{Short, short-length, joined-short, spaced-one}
 
 -- how long the text of a refusal is, and a text with the line feed
@@ -29,49 +30,26 @@ ended-length text = length-append text (10 ∷ [])
 -- what is known of an answer
 abbrev Limited : Worked → Type 0
 Limited (Accepted c) = Sound c
-Limited (Refused number) = number ≤ 8
+Limited (Refused number) = Short number
 
-worked-limited : (role s n shaping mark : ℕ) → Limited (workedOf role s n shaping mark)
-unfolding settingsRefusal
-worked-limited role s n shaping mark = go (workedOf role s n shaping mark) refl
+worked-limited : (asked : Asked) → Limited (workedOf asked)
+worked-limited asked = go (workedOf asked) refl
   where
-    few : settingsRefusal role s n shaping mark ≤ 6
-    few =
-        refusal-most 6 (refusals role s n shaping mark)
-        (omega arith, (omega arith, (omega arith, (omega arith, (omega arith, (omega arith, tt))))))
-
-    go : (w : Worked) → workedOf role s n shaping mark ≡ w → Limited w
-    go (Accepted c) e = accepted-sound role s n shaping mark c e
-    go (Refused number) e = omega (arith, few, sym (ap numberOf e) ∙ number-is role s n shaping mark)
+    go : (w : Worked) → workedOf asked ≡ w → Limited w
+    go (Accepted c) e = accepted-sound asked c e
+    go (Refused number) e = omega (arith, ap numberOf e, number-most asked 9999 refl)
 
 answer-limited : (input : List ℕ) → Limited (answerOf input)
 unfolding answerOf
-answer-limited input = go (fiveBytes input)
+answer-limited input = go (exactInput input)
   where
-    go :
-        (v : Bool)
-        → Limited (cond v (workedOf (getD input 0 0) (getD input 1 0) (getD input 2 0) (getD input 3 0) (getD input 4 0)) (Refused 8))
-    go true = worked-limited (getD input 0 0) (getD input 1 0) (getD input 2 0) (getD input 3 0) (getD input 4 0)
+    go : (v : Bool) → Limited (cond v (workedOf (askedIn input)) (Refused 8))
+    go true = worked-limited (askedIn input)
     go false = omega arith
 
 -- no value has more than four digits
 values-short : (c : Settings) → Sound c → Every Short (valuesOf (Accepted c))
-values-short c z = (
-  omega (arith, z .bits-most),
-  (
-    omega (arith, z .frames-most),
-    (
-      omega (arith, z .high-most),
-      (
-        omega (arith, z .step-most, z .frames-most),
-        (
-          omega (arith, z .shell-most),
-          (omega (arith, z .uncoded-most), (omega (arith, z .rings .most), (omega (arith, z .points-are, z .labels), tt))),
-        ),
-      ),
-    ),
-  ),
-)
+values-short c sound = every-imp (λ v. v ≤ 1664) Short (λ v h. omega arith) (valuesOf (Accepted c)) (values-most c sound)
 
 text-fits : (w : Worked) → Limited w → length (textOf w) ≤ 39
 unfolding textOf

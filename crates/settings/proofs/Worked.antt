@@ -11,5 +11,7 @@ use Rattle.settings.specs.Lines.{answerOf, spaced, joined, textOf, ended
 use Rattle.settings.specs.Cases.{Case, cases}
 
 pub worked-cases : Every (λ (c : Case). lineOf (c .input) ≡ c .line) cases
-unfolding lineOf ended textOf joined spaced answerOf decimal digits workedOf acceptedOf settingsOf settingsRefusal refusal symbolRate rowOf bitsOf highOf stepOf uncodedOf shellOf shapingOf minimumOf nearestOf expandedOf pointsOf smallest
+unfolding lineOf ended textOf joined spaced answerOf decimal digits
+    workedOf acceptedOf settingsOf settingsRefusal refusal symbolRate rowOf smallest
+    bitsOf highOf stepOf uncodedOf shellOf shapingOf minimumOf nearestOf expandedOf pointsOf
 worked-cases = (refl, (refl, (refl, (refl, (refl, (refl, tt))))))

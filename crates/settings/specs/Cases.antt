@@ -1,5 +1,5 @@
 -- Inputs of the settings program with the lines that it prints: document 01's own example, an unstated mark, inputs of the wrong
--- length, a line feed behind the five bytes among them, and a rate above 28,800 with mark 0.
+-- length, a line feed behind the bytes that it takes among them, and a rate above 28,800 with mark 0.
 use mathlib.Core.List.{List, [], _∷_}
 use Prim.Native.Nat.{ℕ}
 

@@ -1,6 +1,6 @@
--- The line that the settings program prints (document 01, "Settings program"): of five bytes, role, s, n, shaping and mark, the values
--- N P b r K q M L in decimal with one space between, or `refused` and the number; of any other input `refused 8`. It ends in a line
--- feed.
+-- The line that the settings program prints (document 01, "Settings program"): of a byte for each setting, role, s, n, shaping and mark,
+-- the values N P b r K q M L in decimal with one space between, or `refused` and the number; of any other input `refused 8`. It ends in
+-- a line feed.
 --
 --     input             line
 --     0, 5, 14, 1, 1    1176 15 79 6 27 5 13 1664
@@ -12,20 +12,27 @@ use mathlib.Core.Path.{_≡_}
 use Prim.Native.Nat.{ℕ}
 use lib.Dec.{eqb}
 use lib.ListN.{length, getD, drop}
+use Rattle.line.specs.declared.asked.Asked.{Asked}
 use Rattle.line.specs.declared.settings.Worked.{Worked}
 use Rattle.line.specs.declared.settings.Worked.the-variants.{Accepted, Refused}
+use Rattle.line.specs.Asked.{asked}
 use Rattle.line.specs.Settings.{workedOf, valuesOf}
 use Rattle.settings.specs.Decimal.{decimal}
 
-abbrev pub fiveBytes : List ℕ → Bool
-fiveBytes input = eqb (length input) 5
+-- how many bytes it takes: one for each setting
+abbrev pub taken : ℕ
+taken = 5
 
--- what is answered: five bytes worked out, and refusal 8 for any other input
+abbrev pub exactInput : List ℕ → Bool
+exactInput input = eqb (length input) taken
+
+-- the settings that they ask for
+abbrev pub askedIn : List ℕ → Asked
+askedIn input = asked (getD input 0 0) (getD input 1 0) (getD input 2 0) (getD input 3 0) (getD input 4 0)
+
+-- what is answered: a byte for each setting is worked out, and refusal 8 for any other input
 unfoldable pub answerOf : List ℕ → Worked
-answerOf input =
-    cond (fiveBytes input)
-    (workedOf (getD input 0 0) (getD input 1 0) (getD input 2 0) (getD input 3 0) (getD input 4 0))
-    (Refused 8)
+answerOf input = cond (exactInput input) (workedOf (askedIn input)) (Refused 8)
 
 -- numbers in decimal, each with a space before it
 unfoldable pub spaced : List ℕ → List ℕ

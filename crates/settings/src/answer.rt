@@ -1,14 +1,15 @@
 // From the input of the settings program to the line that it prints.
 ghost use mathlib.Core.Path.{_≡_};
-ghost use Prim.Native.Nat.{_≤_, _<_};
+ghost use Prim.Native.Nat.{_≤_};
 ghost use lib.ListN.{length};
 ghost use Rattle.laws.specs.Put.{Put};
 ghost use Rattle.line.specs.declared.settings.Worked.the-variants.{Accepted, Refused};
-ghost use Rattle.settings.specs.Lines.{answerOf, textOf, lineOf, Answers};
+ghost use Rattle.settings.specs.Lines.{askedIn, answerOf, textOf, lineOf, Answers};
 use crate::text::put_byte;
 use crate::text::put_bytes;
 use crate::text::put_joined;
 use crate::text::put_spaced;
+use line::Asked;
 use line::Settings;
 use line::Worked;
 
@@ -47,20 +48,28 @@ fn put_text(line: &mut [u8], worked: Worked) -> usize
     }
 }
 
-// What is answered: five bytes worked out, and refusal 8 for any other input.
+// What the bytes ask for, one for each setting.
+fn asked_in(input: &[u8]) -> Asked
+    requires { ⌜ length (now input) ≡ 5 ⌝ }
+    ensures { λ r. ⌜ r ≡ askedIn (now (input .entry)) ⌝ }
+{
+    Asked {
+        role: wide(input[0]),
+        s: wide(input[1]),
+        n: wide(input[2]),
+        shaping: wide(input[3]),
+        mark: wide(input[4]),
+    }
+}
+
+// What is answered: a byte for each setting worked out, and refusal 8 for any other input.
 fn worked_of(input: &[u8]) -> Worked
     ensures { λ r. ⌜ r ≡ answerOf (now (input .entry)) ⌝ }
 {
     if input.len() != 5 {
         return Worked::Refused(8);
     }
-    line::work_out(
-        wide(input[0]),
-        wide(input[1]),
-        wide(input[2]),
-        wide(input[3]),
-        wide(input[4]),
-    )
+    line::work_out(asked_in(input))
 }
 
 // The line of an input: the text of its answer, and the line feed.

@@ -1,5 +1,6 @@
 // One row of the two tables.
 ghost use Prim.Native.Nat.{_≤_};
+use line::Asked;
 use line::Settings;
 use line::Worked;
 use line::next_frame;
@@ -53,13 +54,25 @@ fn is_lacking(s: u64, n: u64) -> bool {
     false
 }
 
+// The settings of s, n and a shaping. With mark 1 every n in the range of s is accepted.
+fn worked(s: u64, n: u64, shaping: u64) -> Worked {
+    let asked = Asked {
+        role: 0,
+        s,
+        n,
+        shaping,
+        mark: 1,
+    };
+    work_out(asked)
+}
+
 // The row of s and n, and nothing where the settings are refused.
 pub fn show(s: u64, n: u64) {
-    let least = work_out(0, s, n, 0, 1);
+    let least = worked(s, n, 0);
     let Worked::Accepted(c) = least else {
         return;
     };
-    let most = work_out(0, s, n, 1, 1);
+    let most = worked(s, n, 1);
     let Worked::Accepted(d) = most else {
         return;
     };

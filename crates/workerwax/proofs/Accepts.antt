@@ -1,5 +1,5 @@
 -- Which calls get 0, for whatever outcome fits a call's contract: exactly those that say nothing wrong, with slices of exact lengths.
---     parameters-accepts     the five settings are right
+--     parameters-accepts     what is asked is right
 --     map-accepts            K and M are permitted, and the number is below 2^K
 --     rank-accepts           K and M are permitted, and fewer than 2^K sets stand before the rings, which are below M
 --     start-accepts          the settings are right, the register is below 2^23 and Z at most 3
@@ -17,11 +17,13 @@ use lib.Dec.{eqb}
 use lib.ListN.{length}
 use borrow.Author.Tests.{eqb-true, eqb-false}
 use Rattle.laws.specs.Choice.{refusal}
-use Rattle.laws.specs.Digits.{Bits}
+use Rattle.bits.specs.Digits.{Bits}
 use Rattle.laws.proofs.Bools.{not-not}
 use Rattle.laws.proofs.Choices.{none-first}
-use Rattle.rings.specs.Answers.{MapAnswer, Mappable, Rankable, rankedOf}
+use Rattle.rings.specs.Mapping.{MapAnswer, Mappable, Rankable, rankedOf}
 use Rattle.rings.proofs.Acceptance.{mapper-accepts, ranker-accepts}
+use Rattle.line.specs.Asked.{asked}
+use Rattle.line.specs.declared.asked.Asked.{Asked}
 use Rattle.line.specs.declared.settings.Settings.{Settings}
 use Rattle.line.specs.declared.settings.Worked.the-variants.{Accepted}
 use Rattle.line.specs.Settings.{workedOf, numberOf}
@@ -33,10 +35,10 @@ use Rattle.coder.specs.Answers.{Receivable}
 use Rattle.coder.proofs.Acceptance.{settings-sound, writer-accepts, reader-accepts}
 use Rattle.coder.proofs.Starting.{Fit, fit-worked, plain, start-accepts as state-accepts, short-start-accepts as plain-accepts}
 use Rattle.workerwax.specs.Calls.{own, ParametersCall, RankCall, StartCall, WriteCall, ReadCall}
-use Rattle.workerwax.specs.Layout.{labelsIn}
+use Rattle.workerwax.specs.Layout.{labelsIn, parametersBytes, rankBytes, startBytes, codedBytes}
 use Rattle.workerwax.specs.Lending.{lentLabels}
 use Rattle.workerwax.proofs.Lends.{lent-exact, length-labels}
-use Rattle.workerwax.proofs.Frames.{all-given}
+use Rattle.workerwax.proofs.Coding.{all-given}
 use Rattle.workerwax.proofs.Ways.{rank-same, rank-is, rank-four}
 use Rattle.workerwax.proofs.Below.{part, part-length, written-number, sendable, written-lent}
 use Rattle.workerwax.proofs.Below.{given, read-number, receivable, given-lent, read-given}
@@ -53,21 +55,21 @@ own-parts number lent size = go (eqb number 0) refl
     go false e zero = absurd (eqb-false number 0 e zero)
 
 pub parameters-accepts :
-    (role s n shaping mark : ℕ) (answer : List ℕ) (r : ℕ) (after : List ℕ)
-    → ParametersCall (workedOf role s n shaping mark) answer r after
-    → (r ≡ 0) ↔ (Right role s n shaping mark × (length answer ≡ 32))
+    (asked : Asked) (answer : List ℕ) (r : ℕ) (after : List ℕ)
+    → ParametersCall (workedOf asked) answer r after
+    → (r ≡ 0) ↔ (Right asked × (length answer ≡ parametersBytes))
 unfolding refusal
-parameters-accepts role s n shaping mark answer r after call = (there, back)
+parameters-accepts asked answer r after call = (there, back)
   where
-    back : Right role s n shaping mark × (length answer ≡ 32) → r ≡ 0
+    back : Right asked × (length answer ≡ parametersBytes) → r ≡ 0
     back p =
-        let none = number-is role s n shaping mark ∙ right-unrefused role s n shaping mark (p .0) in
+        let none = number-is asked ∙ right-unrefused asked (p .0) in
         call .number ∙ rw (none, p .1)
 
-    there : r ≡ 0 → Right role s n shaping mark × (length answer ≡ 32)
+    there : r ≡ 0 → Right asked × (length answer ≡ parametersBytes)
     there zero =
-        let parts = own-parts (numberOf (workedOf role s n shaping mark)) (length answer) 32 (sym (call .number) ∙ zero) in
-        (unrefused-right role s n shaping mark (sym (number-is role s n shaping mark) ∙ parts .0), parts .1)
+        let parts = own-parts (numberOf (workedOf asked)) (length answer) parametersBytes (sym (call .number) ∙ zero) in
+        (unrefused-right asked (sym (number-is asked) ∙ parts .0), parts .1)
 
 pub map-accepts :
     (K M S : ℕ) (rings : List ℕ) (r : ℕ) (after : List ℕ) → MapAnswer K M S rings r after → (r ≡ 0) ↔ Mappable K M S (length rings)
@@ -77,36 +79,36 @@ map-accepts K M S rings r after call =
 
 pub rank-accepts :
     (K M : ℕ) (rings answer : List ℕ) (r : ℕ) (after : List ℕ) → RankCall K M rings answer r after
-    → (r ≡ 0) ↔ (Rankable K M rings × (length answer ≡ 4))
+    → (r ≡ 0) ↔ (Rankable K M rings × (length answer ≡ rankBytes))
 unfolding rankedOf
 rank-accepts K M rings answer r after call = (there, back)
   where
-    there : r ≡ 0 → Rankable K M rings × (length answer ≡ 4)
+    there : r ≡ 0 → Rankable K M rings × (length answer ≡ rankBytes)
     there zero =
         let four = rank-four K M rings answer (rank-is K M rings answer ∙ (sym (call .refusal) ∙ zero)) in
         (ranker-accepts K M rings .0 (sym (rank-same K M rings answer four) ∙ (sym (call .refusal) ∙ zero)), four)
 
-    back : Rankable K M rings × (length answer ≡ 4) → r ≡ 0
+    back : Rankable K M rings × (length answer ≡ rankBytes) → r ≡ 0
     back p = call .refusal ∙ (rank-same K M rings answer (p .1) ∙ ranker-accepts K M rings .1 (p .0))
 
 pub start-accepts :
     (st : State) (answer : List ℕ) (r : ℕ) (after : List ℕ) → StartCall (startedOf st) answer r after
-    → (r ≡ 0) ↔ (Fit st × (length answer ≡ 28))
+    → (r ≡ 0) ↔ (Fit st × (length answer ≡ startBytes))
 unfolding refusal
 start-accepts st answer r after call = (there, back)
   where
-    back : Fit st × (length answer ≡ 28) → r ≡ 0
+    back : Fit st × (length answer ≡ startBytes) → r ≡ 0
     back p = call .number ∙ rw (state-accepts st .1 (p .0), p .1)
 
-    there : r ≡ 0 → Fit st × (length answer ≡ 28)
+    there : r ≡ 0 → Fit st × (length answer ≡ startBytes)
     there zero =
-        let parts = own-parts (startedOf st .refusal) (length answer) 28 (sym (call .number) ∙ zero) in
+        let parts = own-parts (startedOf st .refusal) (length answer) startBytes (sym (call .number) ∙ zero) in
         (state-accepts st .0 (parts .0), parts .1)
 
 -- the short start is the full one with shaping 0, register 0 and Z 0
 pub short-start-accepts :
     (role s n mark : ℕ) (answer : List ℕ) (r : ℕ) (after : List ℕ) → StartCall (shortStartedOf role s n mark) answer r after
-    → (r ≡ 0) ↔ (Right role s n 0 mark × (length answer ≡ 28))
+    → (r ≡ 0) ↔ (Right (asked role s n 0 mark) × (length answer ≡ startBytes))
 unfolding shortStartedOf
 short-start-accepts role s n mark answer r after call =
     let same = start-accepts (plain role s n mark) answer r after call in
@@ -115,15 +117,15 @@ short-start-accepts role s n mark answer r after call =
       λ p. same .1 (fit .0 (plain-accepts role s n mark .1 (p .0)), p .1),
     )
 
--- what ww_write takes: the settings are those of the state, the state is fit, the bytes are bits, and all three lengths are exact
+-- what ww_write takes: the settings are those of the state, the state is fit, the bytes are bits, and every length is exact
 pub record SendableBytes (st : State) (c : Settings) (bits lent answer : List ℕ) : Type 0 where
   pub worked : workedIn st ≡ Accepted c
   pub held : st .register < 2 ^ 23
   pub turn : st .z ≤ 3
   pub binary : Bits bits
-  pub size : length bits ≡ c .bits
+  pub size : length bits ≡ c .user
   pub room : length lent ≡ 32 * c .frames
-  pub answered : length answer ≡ 32
+  pub answered : length answer ≡ codedBytes
 
 pub write-accepts :
     (st : State) (bits lent answer : List ℕ) (r : ℕ) (labels after : List ℕ) → WriteCall st bits lent answer r labels after
@@ -169,8 +171,8 @@ pub record ReceivableBytes (st : State) (c : Settings) (labels lent answer : Lis
   pub held : st .register < 2 ^ 23
   pub turn : st .z ≤ 3
   pub count : length labels ≡ 32 * c .frames
-  pub size : length lent ≡ c .bits
-  pub answered : length answer ≡ 32
+  pub size : length lent ≡ c .user
+  pub answered : length answer ≡ codedBytes
   pub ranges : allInRange c (labelsIn labels) ≡ true
   pub numbers : numbersFit c (c .frames) (receivingOf (st .z) (labelsIn labels)) ≡ true
   pub steps : allStepsFit c (c .frames) (receivingOf (st .z) (labelsIn labels)) ≡ true
@@ -235,7 +237,7 @@ pub writes-from-start :
     (st : State) (answer after : List ℕ) → StartCall (startedOf st) answer 0 after
     → (c : Settings)
     × (workedIn st ≡ Accepted c)
-    × ((bits lent room : List ℕ) → Bits bits → length bits ≡ c .bits → length lent ≡ 32 * c .frames → length room ≡ 32
+    × ((bits lent room : List ℕ) → Bits bits → length bits ≡ c .user → length lent ≡ 32 * c .frames → length room ≡ codedBytes
     → (r : ℕ) (labels next : List ℕ) → WriteCall st bits lent room r labels next → r ≡ 0)
 writes-from-start st answer after start =
     let fit = start-accepts st answer 0 after start .0 refl .0 in

@@ -5,17 +5,17 @@ use mathlib.Core.Path.{_≡_, refl, sym, ap, subst, _∙_}
 use Prim.Native.Nat.{ℕ, _*_}
 use native.Mathlib.Omega.{arith}
 use lib.ListN.{length}
-use Rattle.laws.specs.Digits.{Bits}
+use Rattle.bits.specs.Digits.{Bits}
 use Rattle.laws.specs.Lists.{Every}
 use Rattle.line.specs.declared.settings.Settings.{Settings}
 use Rattle.line.specs.declared.settings.Worked.the-variants.{Accepted}
 use Rattle.coder.specs.declared.states.State.{State}
 use Rattle.coder.specs.declared.states.Coded.{Coded}
 use Rattle.coder.specs.Answers.{bitsOf, writtenOf, labelsAfter, readOf, bitsAfter, Receivable}
-use Rattle.coder.proofs.Acceptance.{read-receivable}
+use Rattle.coder.proofs.Acceptance.{read-receivable, settings-sound}
 use Rattle.coder.proofs.Back.{ReadBack, WrittenBack, reading-back, writing-back, decoded, receives-bits}
 use Rattle.workerwax.specs.Calls.{codedNumbers, WriteCall, ReadCall}
-use Rattle.workerwax.specs.Layout.{words, labelBytes, labelsIn}
+use Rattle.workerwax.specs.Layout.{words, labelBytes, labelsIn, codedBytes}
 use Rattle.workerwax.proofs.Undone.{Byte, bytes-back, length-bytes}
 use Rattle.workerwax.proofs.Below.{part, written-zero, written-lent, written-answer, written-labels, written-in}
 use Rattle.workerwax.proofs.Below.{given, read-zero, receivable, read-given, read-long, read-bits, read-answer}
@@ -30,7 +30,7 @@ pub record Undone (r : ℕ) (after first next answer : List ℕ) : Type 0 where
 -- Reading what was written.
 pub reads-back :
     (st : State) (bits lent answer labels after : List ℕ) → WriteCall st bits lent answer 0 labels after
-    → (buffer room : List ℕ) → length buffer ≡ length bits → length room ≡ 32
+    → (buffer room : List ℕ) → length buffer ≡ length bits → length room ≡ codedBytes
     → (r : ℕ) (back again : List ℕ) → ReadCall st labels buffer room r back again
     → Undone r back bits again after
 reads-back st bits lent answer labels after call buffer room size words-room r back again read =
@@ -88,7 +88,7 @@ reads-back st bits lent answer labels after call buffer room size words-room r b
 -- Writing what the reader accepts.
 pub writes-back :
     (st : State) (labels lent answer bits after : List ℕ) → Every Byte labels → ReadCall st labels lent answer 0 bits after
-    → (buffer room : List ℕ) → length buffer ≡ length labels → length room ≡ 32
+    → (buffer room : List ℕ) → length buffer ≡ length labels → length room ≡ codedBytes
     → (r : ℕ) (back again : List ℕ) → WriteCall st bits buffer room r back again
     → Undone r back labels again after
 writes-back st labels lent answer bits after bytes call buffer room size words-room r back again write =
@@ -125,6 +125,7 @@ writes-back st labels lent answer bits after bytes call buffer room size words-r
     zero =
         let x = found .1 in
         let d = decoded st (found .0) taken lent x in
+        let sound = settings-sound st (found .0) (x .worked) in
         write-accepts st bits buffer room r back again write .1 (
           found .0,
           record {
@@ -132,7 +133,7 @@ writes-back st labels lent answer bits after bytes call buffer room size words-r
             held = x .held;
             turn = x .turn;
             binary = subst Bits (sym read-out) (d .binary);
-            size = ap length read-out ∙ d .size;
+            size = ap length read-out ∙ (d .size ∙ sym (sound .user-is));
             room = omega (arith, size, long, x .count);
             answered = words-room;
           },

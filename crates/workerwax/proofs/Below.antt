@@ -16,14 +16,14 @@ use Rattle.coder.proofs.Back.{reading-back}
 use Rattle.workerwax.specs.Calls.{writeNumber, readNumber, codedNumbers, WriteCall, ReadCall}
 use Rattle.workerwax.specs.Layout.{words, labelBytes, labelsIn}
 use Rattle.workerwax.specs.Lending.{lentLabels}
-use Rattle.workerwax.proofs.Lends.{Lent, length-labels}
-use Rattle.workerwax.proofs.Frames.{write-is, write-lent, write-coded, write-labels}
-use Rattle.workerwax.proofs.Frames.{read-is, read-lent, read-all, read-coded, read-decoded}
+use Rattle.workerwax.proofs.Lends.{LentBytes, length-labels}
+use Rattle.workerwax.proofs.Coding.{write-is, write-lent, write-coded, write-labels}
+use Rattle.workerwax.proofs.Coding.{read-is, read-lent, read-all, read-coded, read-decoded}
 use Rattle.workerwax.proofs.Ways.{filled-up}
-use Rattle.workerwax.proofs.Undone.{Small, labels-back, ranges-small}
+use Rattle.workerwax.proofs.Undone.{TwoBytes, labels-back, ranges-small}
 
 -- the labels of a data frame that the reader accepts are below 2^16
-accepted-small : (st : State) (labels bits : List ℕ) → readOf st labels (length bits) .refusal ≡ 0 → Every Small labels
+accepted-small : (st : State) (labels bits : List ℕ) → readOf st labels (length bits) .refusal ≡ 0 → Every TwoBytes labels
 accepted-small st labels bits done =
     let found = read-receivable st labels bits done in
     let c = found .0 in
@@ -51,7 +51,7 @@ module _
     pub sendable : (c : Settings) × Sendable st c bits part
     sendable = written-sendable st bits part written-zero
 
-    pub written-lent : Lent (length lent) (length answer) (length part)
+    pub written-lent : LentBytes (length lent) (length answer) (length part)
     written-lent = write-lent st bits lent answer part part-length written-zero
 
     -- what it answered, and the words of that
@@ -93,7 +93,7 @@ module _
     pub receivable : (c : Settings) × Receivable st c given lent
     receivable = read-receivable st given lent read-zero
 
-    pub given-lent : Lent (length labels) (length answer) (lentLabels (length labels) (length answer))
+    pub given-lent : LentBytes (length labels) (length answer) (lentLabels (length labels) (length answer))
     given-lent = read-lent st labels lent answer given refl read-zero
 
     pub read-given : given ≡ labelsIn labels

@@ -8,13 +8,10 @@ use native.Mathlib.Omega.{arith}
 use lib.ListN.{length, take, drop, getD, set, length-append, length-set, drop-of-length-le}
 use lib.Seq.{take-suc, take-suc-set, drop-cons, take-all}
 use Rattle.laws.specs.Put.{Put}
-use Rattle.laws.proofs.Puts.{put-one, put-more, put-front}
+use Rattle.laws.proofs.Puts.{four-stores, put-whole}
 use Rattle.workerwax.specs.Layout.{word, words, labelBytes, labelsIn}
 
 -- One number: four stores.
-stored : {b : List ℕ} {k x m : ℕ} → k < length b → m ≡ k + 1 → Put (x ∷ []) b (set b k x) k m
-stored h e = record { buffer = put-one h .buffer; place = e }
-
 module _ (l : List ℕ) (at n : ℕ) (room : at + 4 ≤ length l) where
   abbrev pub one : List ℕ
   one = set l at (n % 256)
@@ -39,12 +36,7 @@ module _ (l : List ℕ) (at n : ℕ) (room : at + 4 ≤ length l) where
 
   pub word-put : Put (word n) l four at (at + 4)
   unfolding word
-  word-put =
-      put-more (omega arith)
-      (put-more (omega arith)
-      (put-more (omega arith) (stored (omega arith) refl) (stored (omega (arith, length-one)) (omega arith)))
-      (stored (omega (arith, length-two)) (omega arith)))
-      (stored (omega (arith, length-three)) (omega arith))
+  word-put = record { buffer = four-stores l at _ _ _ _ room; place = refl }
 
 -- Numbers, one after the other.
 pub length-word : (n : ℕ) → length (word n) ≡ 4
@@ -76,15 +68,11 @@ words-more ns i h =
 
 -- a slice that has just their bytes holds nothing else
 pub words-whole : (ns before after : List ℕ) (k : ℕ) → length before ≡ 4 * length ns → Put (words ns) before after 0 k → after ≡ words ns
-words-whole ns before after k size p =
-    let short : length before ≤ length (words ns) = omega (arith, length-words ns) in
-    put-front p ∙ (ap (λ (l : List ℕ). words ns ++ l) (drop-of-length-le before short) ∙ append-nil (words ns))
+words-whole ns before after k size p = put-whole p (size ∙ sym (length-words ns))
 
 -- one number, into four bytes
 pub word-whole : (n : ℕ) (before after : List ℕ) (k : ℕ) → length before ≡ 4 → Put (word n) before after 0 k → after ≡ word n
-word-whole n before after k size p =
-    let short : length before ≤ length (word n) = omega (arith, length-word n) in
-    put-front p ∙ (ap (λ (l : List ℕ). word n ++ l) (drop-of-length-le before short) ∙ append-nil (word n))
+word-whole n before after k size p = put-whole p (size ∙ sym (length-word n))
 
 -- a store leaves every place where it was
 pub still-inside : (l : List ℕ) (at x place : ℕ) → place < length l → place < length (set l at x)

@@ -1,5 +1,5 @@
 -- How many labels the coder is lent: at most 256, and half as many as there are bytes wherever it is not 0. So the coder's test of its own
--- lengths is the test of all three lengths. Assumes nothing.
+-- lengths is the test of every length. Assumes nothing.
 use mathlib.Core.Bool.{Bool, true, false, _&&_, cond}
 use mathlib.Core.List.{List, [], _∷_}
 use mathlib.Core.Path.{_≡_, refl, ap, _∙_}
@@ -13,12 +13,12 @@ use Rattle.line.specs.declared.settings.Settings.{Settings}
 use Rattle.line.proofs.Soundness.{Sound}
 use Rattle.coder.specs.Answers.{exact}
 use Rattle.workerwax.specs.Calls.{exactBytes}
-use Rattle.workerwax.specs.Layout.{labelsIn}
+use Rattle.workerwax.specs.Layout.{labelsIn, rankBytes, codedBytes}
 use Rattle.workerwax.specs.Lending.{lentLabels, shownRings}
 
 module _ (labels answer : ℕ) where
   abbrev whole : Bool
-  whole = eqb answer 32
+  whole = eqb answer codedBytes
 
   abbrev halves : Bool
   halves = leb labels 512 && eqb (labels % 2) 0
@@ -26,16 +26,16 @@ module _ (labels answer : ℕ) where
   abbrev fitting : Bool
   fitting = whole && halves
 
-  pub record Lent (lent : ℕ) : Type 0 where
-    pub answered : answer ≡ 32
+  pub record LentBytes (lent : ℕ) : Type 0 where
+    pub answered : answer ≡ codedBytes
     pub most : labels ≤ 512
     pub half : labels ≡ 2 * lent
 
-  pub lent-some : (lentLabels labels answer ≡ 0 → ⊥) → Lent (lentLabels labels answer)
+  pub lent-some : (lentLabels labels answer ≡ 0 → ⊥) → LentBytes (lentLabels labels answer)
   unfolding lentLabels
   lent-some some = go fitting refl some
     where
-      go : (v : Bool) → fitting ≡ v → (cond v (labels / 2) 0 ≡ 0 → ⊥) → Lent (cond v (labels / 2) 0)
+      go : (v : Bool) → fitting ≡ v → (cond v (labels / 2) 0 ≡ 0 → ⊥) → LentBytes (cond v (labels / 2) 0)
       go false e h = absurd (h refl)
       go true e h =
           let outer = and-parts whole halves e in
@@ -62,7 +62,7 @@ module _ (labels answer : ℕ) where
       go false = omega arith
       go true = omega arith
 
-  pub lent-exact : (k : ℕ) → answer ≡ 32 → k ≤ 256 → labels ≡ 2 * k → lentLabels labels answer ≡ k
+  pub lent-exact : (k : ℕ) → answer ≡ codedBytes → k ≤ 256 → labels ≡ 2 * k → lentLabels labels answer ≡ k
   unfolding lentLabels
   lent-exact k e most half =
       let even : labels % 2 ≡ 0 = omega arith in
@@ -73,17 +73,17 @@ module _ (labels answer : ℕ) where
 -- the ranker is shown no more rings than there are
 pub shown-within : (rings answer : ℕ) → shownRings rings answer ≤ rings
 unfolding shownRings
-shown-within rings answer = go (eqb answer 4)
+shown-within rings answer = go (eqb answer rankBytes)
   where
     go : (v : Bool) → cond v rings 0 ≤ rings
     go true = omega arith
     go false = omega arith
 
--- the coder's own test, and the test of all three lengths
+-- the coder's own test, and the test of every length
 pub exact-same :
     (c : Settings) → Sound c → (bits labels answer : ℕ) → exact c bits (lentLabels labels answer) ≡ exactBytes c bits labels answer
 exact-same c sound bits labels answer =
-    ap (λ (v : Bool). eqb bits (c .bits) && v)
+    ap (λ (v : Bool). eqb bits (c .user) && v)
     (same-test _ _
     (λ e.
     let is = eqb-true (lentLabels labels answer) (16 * c .frames) e in

@@ -1,29 +1,31 @@
 -- What is proved of the calls for C.
 --     Outcomes     at most one outcome fits each contract
 --     Accepts      which calls get 0, exactly, and that ww_write takes every data frame from a start
+--     InOrder      the refusals of every call follow one row
 --     Unstated     an unstated mark is never taken as permission
 --     Back         ww_write and ww_read undo each other
 --     Places       ww_map and ww_rank by how many sets stand before a set, and that they undo each other
---     Answers      what the words of an answer say, and that the state in them is fit again
+--     Words        what the words of an answer say, and that the state in them is fit again
 --     Undone       bytes there and back, and worked layouts
 -- and what the proofs of several functions share,
 --     Layouts      numbers and labels put and taken one after the other
 --     Lends        how many labels the coder is lent
---     Refusals     no refusal number is above 14
+--     Refusals     every refusal number fits the 32 bits in which C gets it
 --     Ways         the settings, the starts and the ranker by their ways out
---     Frames       the writer and the reader by their ways out
+--     Coding       the writer and the reader by their ways out
 -- and for the theorems
 --     Below        a call of ww_write or ww_read, and what the coder below it did
 pub mod Outcomes
 pub mod Accepts
+pub mod InOrder
 pub mod Unstated
 pub mod Back
 pub mod Places
-pub mod Answers
+pub mod Words
 pub mod Undone
 pub mod Layouts
 pub mod Lends
 pub mod Refusals
 pub mod Ways
-pub mod Frames
+pub mod Coding
 pub mod Below

@@ -3,7 +3,7 @@ use mathlib.Core.List.{List}
 use mathlib.Core.Path.{_≡_, sym, _∙_}
 use Prim.Native.Nat.{ℕ}
 use Rattle.line.specs.declared.settings.Worked.{Worked}
-use Rattle.rings.specs.Answers.{MapAnswer}
+use Rattle.rings.specs.Mapping.{MapAnswer}
 use Rattle.coder.specs.declared.states.State.{State}
 use Rattle.coder.specs.declared.states.Started.{Started}
 use Rattle.workerwax.specs.Calls.{ParametersCall, RankCall, StartCall, WriteCall, ReadCall}

@@ -13,44 +13,45 @@ use mathlib.Core.Path.{_≡_, refl, sym, ap, subst, _∙_}
 use Prim.Native.Nat.{ℕ, _^_, _≤_, _<_}
 use native.Mathlib.Nat.{pow-le-pow-right}
 use native.Mathlib.Omega.{arith}
+use lib.Dec.{eqb}
 use lib.ListN.{length, getD}
 use Rattle.listing.specs.Sets.{Eight, Below8, asList, ofList}
 use Rattle.listing.specs.Order.{standing}
-use Rattle.rings.specs.Answers.{Permitted, mapRefusal, mapOut, MapAnswer, rankRefusal, rankedOf}
+use Rattle.rings.specs.Mapping.{Permitted, mapRefusal, mapOut, MapAnswer, rankRefusal, rankedOf}
 use Rattle.rings.specs.declared.entry.Ranked.{Ranked}
 use Rattle.rings.proofs.Acceptance.{ranker-accepts}
 use Rattle.rings.proofs.Demand3.{mapped, ranked}
 use Rattle.rings.proofs.Demand3.{maps-by-standing as set-by-standing, ranks-by-standing as place-by-standing}
 use Rattle.rings.proofs.Demand3.{refuses-by-standing as heavy-by-standing}
 use Rattle.workerwax.specs.Calls.{rankNumber, RankCall}
-use Rattle.workerwax.specs.Layout.{word, numbersIn}
-use Rattle.workerwax.proofs.Ways.{left, filled-up, rank-same}
-use Rattle.workerwax.proofs.Undone.{Short, number-back}
+use Rattle.workerwax.specs.Layout.{rankBytes, word, numbersIn}
+use Rattle.workerwax.proofs.Ways.{as-it-was, filled-up, rank-same}
+use Rattle.workerwax.proofs.Undone.{FourBytes, number-back}
 use Rattle.workerwax.proofs.Accepts.{rank-accepts}
 
 -- a number below 2^K is short
-below-short : (K S : ℕ) → K ≤ 31 → S < 2 ^ K → Short S
+below-short : (K S : ℕ) → K ≤ 31 → S < 2 ^ K → FourBytes S
 below-short K S few low = let top = pow-le-pow-right {n = 2} (omega arith) few in omega (arith, low, top)
 
 module _ (K M : ℕ) where
-  -- a call of ww_rank with four bytes for its answer has the ranker's own number, and the word of its place
+  -- a call of ww_rank with the bytes of its answer has the ranker's own number, and the word of its place
   rank-number :
-      (rings answer : List ℕ) (r : ℕ) (after : List ℕ) → length answer ≡ 4 → RankCall K M rings answer r after
+      (rings answer : List ℕ) (r : ℕ) (after : List ℕ) → length answer ≡ rankBytes → RankCall K M rings answer r after
       → r ≡ rankedOf K M rings .refusal
   unfolding rankedOf
   rank-number rings answer r after e call = call .refusal ∙ rank-same K M rings answer e
 
   rank-word :
-      (rings answer : List ℕ) (r : ℕ) (after : List ℕ) → length answer ≡ 4 → RankCall K M rings answer r after → r ≡ 0
+      (rings answer : List ℕ) (r : ℕ) (after : List ℕ) → length answer ≡ rankBytes → RankCall K M rings answer r after → r ≡ 0
       → after ≡ word (rankedOf K M rings .number)
   unfolding rankedOf
   rank-word rings answer r after e call zero =
       let none : rankNumber K M rings (length answer) ≡ 0 = sym (call .refusal) ∙ zero in
-      let own : rankRefusal K M rings ≡ 0 = sym (rank-same K M rings answer e) ∙ none in
+      let own : rankRefusal (eqb (length rings) 8) K M rings ≡ 0 = sym (rank-same K M rings answer e) ∙ none in
       call .place ∙ (sym (filled-up _ _ answer none) ∙ rw own)
 
   rank-says :
-      (rings answer : List ℕ) (r : ℕ) (after : List ℕ) → length answer ≡ 4 → RankCall K M rings answer r after → r ≡ 0
+      (rings answer : List ℕ) (r : ℕ) (after : List ℕ) → length answer ≡ rankBytes → RankCall K M rings answer r after → r ≡ 0
       → numbersIn after ≡ rankedOf K M rings .number ∷ []
   rank-says rings answer r after e call zero =
       let none = sym (rank-number rings answer r after e call) ∙ zero in
@@ -60,7 +61,7 @@ module _ (K M : ℕ) where
 
   module _ (x : Eight) (permits : Permitted K M) (below : Below8 M x) where
     pub ranks-by-standing :
-        (answer : List ℕ) → length answer ≡ 4 → (r : ℕ) (after : List ℕ) → RankCall K M (asList x) answer r after
+        (answer : List ℕ) → length answer ≡ rankBytes → (r : ℕ) (after : List ℕ) → RankCall K M (asList x) answer r after
         → (S : ℕ) → ((r ≡ 0) × (numbersIn after ≡ S ∷ [])) ↔ ((standing M x ≡ S) × (S < 2 ^ K))
     ranks-by-standing answer four r after call S = (there, back)
       where
@@ -81,7 +82,7 @@ module _ (K M : ℕ) where
             (zero, rank-says (asList x) answer r after four call zero ∙ ap (λ (y : Ranked). y .number ∷ []) is)
 
     pub refuses-by-standing :
-        (answer : List ℕ) → length answer ≡ 4 → (r : ℕ) (after : List ℕ) → RankCall K M (asList x) answer r after
+        (answer : List ℕ) → length answer ≡ rankBytes → (r : ℕ) (after : List ℕ) → RankCall K M (asList x) answer r after
         → (r ≡ 11) ↔ (2 ^ K ≤ standing M x)
     refuses-by-standing answer four r after call = (there, back)
       where
@@ -112,7 +113,7 @@ module _ (K M : ℕ) where
   pub maps-and-ranks :
       (S : ℕ) → Permitted K M → S < 2 ^ K
       → (rings : List ℕ) → length rings ≡ 8 → (r : ℕ) (set : List ℕ) → MapAnswer K M S rings r set
-      → (answer : List ℕ) → length answer ≡ 4 → (q : ℕ) (after : List ℕ) → RankCall K M set answer q after
+      → (answer : List ℕ) → length answer ≡ rankBytes → (q : ℕ) (after : List ℕ) → RankCall K M set answer q after
       → Placed S set r q after
   maps-and-ranks S permits low rings eight r set map answer four q after rank =
       let m = mapped K M S rings permits eight low in
@@ -150,9 +151,9 @@ module _ (K M : ℕ) where
 
   pub refuses-heavy :
       (x : Eight) → Permitted K M → Below8 M x → 2 ^ K ≤ standing M x
-      → (answer : List ℕ) → length answer ≡ 4 → (r : ℕ) (after : List ℕ) → RankCall K M (asList x) answer r after
+      → (answer : List ℕ) → length answer ≡ rankBytes → (r : ℕ) (after : List ℕ) → RankCall K M (asList x) answer r after
       → (r ≡ 11) × (after ≡ answer)
   refuses-heavy x permits below heavy answer four r after call =
       let eleven = refuses-by-standing x permits below answer four r after call .1 heavy in
       let some : rankNumber K M (asList x) (length answer) ≡ 0 → ⊥ = λ z. omega (arith, z, call .refusal, eleven) in
-      (eleven, call .place ∙ sym (left _ _ answer some))
+      (eleven, call .place ∙ sym (as-it-was _ _ answer some))

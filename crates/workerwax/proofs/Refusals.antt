@@ -1,54 +1,57 @@
--- No refusal number is above 14, so that each fits the 32 bits in which C gets it. Assumes nothing.
+-- Every refusal number fits the 32 bits in which C gets it. Each list of tests says so by its numbers alone, so that a refusal may be
+-- added to it and nothing here changes. Assumes nothing.
 use mathlib.Core.Bool.{Bool, true, false, cond}
 use mathlib.Core.List.{List}
 use mathlib.Core.Path.{_≡_, refl, sym}
-use Prim.Native.Nat.{ℕ, _≤_}
+use Prim.Native.Nat.{ℕ, _-_, _^_, _<_}
 use native.Mathlib.Omega.{arith}
 use lib.Dec.{eqb}
 use borrow.Author.Tests.{eqb-true}
 use Rattle.laws.specs.Choice.{refusal}
-use Rattle.laws.proofs.Choices.{refusal-most}
-use Rattle.rings.specs.Answers.{mapRefusal, rankRefusal, rankedOf}
+use Rattle.laws.proofs.Choices.{within, refusal-most}
+use Rattle.rings.specs.Mapping.{mapRefusal, rankRefusal, rankedOf}
+use Rattle.line.specs.Asked.{asked}
+use Rattle.line.specs.declared.asked.Asked.{Asked}
 use Rattle.line.specs.declared.settings.Worked.{Worked}
 use Rattle.line.specs.declared.settings.Worked.the-variants.{Accepted, Refused}
-use Rattle.line.specs.Settings.{settingsRefusal, workedOf, numberOf}
-use Rattle.line.proofs.Acceptance.{number-is}
+use Rattle.line.specs.Settings.{workedOf, numberOf}
+use Rattle.line.proofs.Acceptance.{number-most}
 use Rattle.coder.specs.declared.states.State.{State}
 use Rattle.coder.specs.declared.states.Coded.{Coded}
-use Rattle.coder.specs.State.{workedIn, stateRefusalOf, startedOf, shortStartedOf, stateOf}
+use Rattle.coder.specs.State.{workedIn, stateRefusalOf, startedOf, shortStartedOf}
 use Rattle.coder.specs.Answers.{writeRefusal, readRefusal, written, received, writtenOf, readOf}
+use Rattle.coder.proofs.Starting.{plain}
 
-pub map-most : (K M S lent : ℕ) → mapRefusal K M S lent ≤ 14
+-- a refusal out of a list whose numbers fit
+narrow-refusal : (tests : List (Bool × ℕ)) → within (2 ^ 32 - 1) tests ≡ true → refusal tests < 2 ^ 32
+narrow-refusal tests listed = omega (arith, refusal-most (2 ^ 32 - 1) tests listed)
+
+pub map-narrow : (K M S lent : ℕ) → mapRefusal K M S lent < 2 ^ 32
 unfolding mapRefusal
-map-most K M S lent = refusal-most 14 _ (omega arith, (omega arith, (omega arith, tt)))
+map-narrow K M S lent = narrow-refusal _ refl
 
-pub rank-most : (K M : ℕ) (rings : List ℕ) → rankedOf K M rings .refusal ≤ 14
+pub rank-narrow : (K M : ℕ) (rings : List ℕ) → rankedOf K M rings .refusal < 2 ^ 32
 unfolding rankedOf rankRefusal
-rank-most K M rings = refusal-most 14 _ (omega arith, (omega arith, (omega arith, (omega arith, tt))))
+rank-narrow K M rings = narrow-refusal _ refl
 
-settings-listed : (role s n shaping mark : ℕ) → settingsRefusal role s n shaping mark ≤ 14
-unfolding settingsRefusal
-settings-listed role s n shaping mark =
-    refusal-most 14 _ (omega arith, (omega arith, (omega arith, (omega arith, (omega arith, (omega arith, tt))))))
-
-pub settings-most : (role s n shaping mark : ℕ) → numberOf (workedOf role s n shaping mark) ≤ 14
-settings-most role s n shaping mark = omega (arith, number-is role s n shaping mark, settings-listed role s n shaping mark)
+pub settings-narrow : (asked : Asked) → numberOf (workedOf asked) < 2 ^ 32
+settings-narrow asked = omega (arith, number-most asked (2 ^ 32 - 1) refl)
 
 -- of a state
-in-most : (st : State) → numberOf (workedIn st) ≤ 14
-in-most st = settings-most (st .role) (st .s) (st .n) (st .shaping) (st .mark)
+in-narrow : (st : State) → numberOf (workedIn st) < 2 ^ 32
+in-narrow st = settings-narrow (st .asked)
 
-pub start-most : (st : State) → startedOf st .refusal ≤ 14
+pub start-narrow : (st : State) → startedOf st .refusal < 2 ^ 32
 unfolding startedOf
-start-most st = go (workedIn st) (in-most st)
+start-narrow st = go (workedIn st) (in-narrow st)
   where
-    go : (w : Worked) → numberOf w ≤ 14 → stateRefusalOf w st ≤ 14
+    go : (w : Worked) → numberOf w < 2 ^ 32 → stateRefusalOf w st < 2 ^ 32
     go (Refused number) h = h
-    go (Accepted c) h = refusal-most 14 _ (omega arith, tt)
+    go (Accepted c) h = narrow-refusal _ refl
 
-pub short-start-most : (role s n mark : ℕ) → shortStartedOf role s n mark .refusal ≤ 14
+pub short-start-narrow : (role s n mark : ℕ) → shortStartedOf role s n mark .refusal < 2 ^ 32
 unfolding shortStartedOf
-short-start-most role s n mark = start-most (stateOf role s n 0 mark 0 0)
+short-start-narrow role s n mark = start-narrow (plain role s n mark)
 
 -- The writer's and the reader's number is the refusal of their tests.
 chosen :
@@ -60,9 +63,9 @@ chosen number done st h = go (eqb number 0) refl
     go true e = h (eqb-true number 0 e)
     go false e = refl
 
-pub written-number : (st : State) (bits : List ℕ) (lent : ℕ) → writtenOf st bits lent .refusal ≡ writeRefusal (workedIn st) st bits lent
+pub written-refusal : (st : State) (bits : List ℕ) (lent : ℕ) → writtenOf st bits lent .refusal ≡ writeRefusal (workedIn st) st bits lent
 unfolding writtenOf
-written-number st bits lent = go (workedIn st)
+written-refusal st bits lent = go (workedIn st)
   where
     go :
         (w : Worked)
@@ -71,9 +74,9 @@ written-number st bits lent = go (workedIn st)
     go (Refused number) = chosen number (record { refusal = number; bits = 0; state = st }) st (λ e. refl)
     go (Accepted c) = chosen _ (written (Accepted c) st bits) st (λ e. sym e)
 
-pub read-number : (st : State) (labels : List ℕ) (lent : ℕ) → readOf st labels lent .refusal ≡ readRefusal (workedIn st) st labels lent
+pub read-refusal : (st : State) (labels : List ℕ) (lent : ℕ) → readOf st labels lent .refusal ≡ readRefusal (workedIn st) st labels lent
 unfolding readOf
-read-number st labels lent = go (workedIn st)
+read-refusal st labels lent = go (workedIn st)
   where
     go :
         (w : Worked)
@@ -82,16 +85,16 @@ read-number st labels lent = go (workedIn st)
     go (Refused number) = chosen number (record { refusal = number; bits = 0; state = st }) st (λ e. refl)
     go (Accepted c) = chosen _ (received (Accepted c) st labels) st (λ e. sym e)
 
-pub write-most : (st : State) (bits : List ℕ) (lent : ℕ) → writtenOf st bits lent .refusal ≤ 14
-write-most st bits lent = omega (arith, written-number st bits lent, go (workedIn st) (in-most st))
+pub write-narrow : (st : State) (bits : List ℕ) (lent : ℕ) → writtenOf st bits lent .refusal < 2 ^ 32
+write-narrow st bits lent = omega (arith, written-refusal st bits lent, go (workedIn st) (in-narrow st))
   where
-    go : (w : Worked) → numberOf w ≤ 14 → writeRefusal w st bits lent ≤ 14
+    go : (w : Worked) → numberOf w < 2 ^ 32 → writeRefusal w st bits lent < 2 ^ 32
     go (Refused number) h = h
-    go (Accepted c) h = refusal-most 14 _ (omega arith, (omega arith, (omega arith, tt)))
+    go (Accepted c) h = narrow-refusal _ refl
 
-pub read-most : (st : State) (labels : List ℕ) (lent : ℕ) → readOf st labels lent .refusal ≤ 14
-read-most st labels lent = omega (arith, read-number st labels lent, go (workedIn st) (in-most st))
+pub read-narrow : (st : State) (labels : List ℕ) (lent : ℕ) → readOf st labels lent .refusal < 2 ^ 32
+read-narrow st labels lent = omega (arith, read-refusal st labels lent, go (workedIn st) (in-narrow st))
   where
-    go : (w : Worked) → numberOf w ≤ 14 → readRefusal w st labels lent ≤ 14
+    go : (w : Worked) → numberOf w < 2 ^ 32 → readRefusal w st labels lent < 2 ^ 32
     go (Refused number) h = h
-    go (Accepted c) h = refusal-most 14 _ (omega arith, (omega arith, (omega arith, (omega arith, (omega arith, tt)))))
+    go (Accepted c) h = narrow-refusal _ refl

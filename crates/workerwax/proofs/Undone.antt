@@ -15,11 +15,11 @@ use Rattle.frame.specs.Reading.{inRange}
 use Rattle.workerwax.specs.Layout.{word, words, numbersIn, labelBytes, labelsIn}
 
 -- Numbers.
-abbrev pub Short : ℕ → Type 0
-Short n = n < 4294967296
+abbrev pub FourBytes : ℕ → Type 0
+FourBytes n = n < 4294967296
 
 -- a number is what its four bytes say
-bytes-of : (n : ℕ) → Short n → n % 256 + 256 * (n / 256 % 256) + 65536 * (n / 65536 % 256) + 16777216 * (n / 16777216 % 256) ≡ n
+bytes-of : (n : ℕ) → FourBytes n → n % 256 + 256 * (n / 256 % 256) + 65536 * (n / 65536 % 256) + 16777216 * (n / 16777216 % 256) ≡ n
 bytes-of n h =
     let q = n / 256 in
     let r = n / 65536 in
@@ -30,23 +30,23 @@ bytes-of n h =
     let firsts : n % 256 + 256 * q ≡ n = omega arith in
     omega (arith, tops, thirds, seconds, firsts)
 
-pub numbers-back : (ns : List ℕ) → Every Short ns → numbersIn (words ns) ≡ ns
+pub numbers-back : (ns : List ℕ) → Every FourBytes ns → numbersIn (words ns) ≡ ns
 unfolding words word numbersIn
 numbers-back [] h = refl
 numbers-back (n ∷ ns) h = ap₂ (λ (x : ℕ) (xs : List ℕ). x ∷ xs) (bytes-of n (h .0)) (numbers-back ns (h .1))
 
-pub number-back : (n : ℕ) → Short n → numbersIn (word n) ≡ n ∷ []
+pub number-back : (n : ℕ) → FourBytes n → numbersIn (word n) ≡ n ∷ []
 unfolding word numbersIn
 number-back n h = ap (λ (x : ℕ). x ∷ []) (bytes-of n h)
 
 -- Labels.
-abbrev pub Small : ℕ → Type 0
-Small label = label < 65536
+abbrev pub TwoBytes : ℕ → Type 0
+TwoBytes label = label < 65536
 
 abbrev pub Byte : ℕ → Type 0
 Byte b = b < 256
 
-pub labels-back : (labels : List ℕ) → Every Small labels → labelsIn (labelBytes labels) ≡ labels
+pub labels-back : (labels : List ℕ) → Every TwoBytes labels → labelsIn (labelBytes labels) ≡ labels
 unfolding labelBytes labelsIn
 labels-back [] h = refl
 labels-back (label ∷ labels) h =
@@ -80,7 +80,7 @@ length-bytes (label ∷ labels) = omega (arith, length-bytes labels)
 
 -- labels that are in their ranges are below 2^16
 pub ranges-small :
-    (M q k : ℕ) (labels : List ℕ) → M * 2 ^ q ≤ 65536 → length labels ≡ 4 * k → inRange M q k labels ≡ true → Every Small labels
+    (M q k : ℕ) (labels : List ℕ) → M * 2 ^ q ≤ 65536 → length labels ≡ 4 * k → inRange M q k labels ≡ true → Every TwoBytes labels
 unfolding inRange
 ranges-small M q zero [] top e h = tt
 ranges-small M q zero (a ∷ labels) top e h = absurd (omega arith)

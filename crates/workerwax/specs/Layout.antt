@@ -3,7 +3,12 @@
 --     a number of an answer     four bytes     1176     152, 4, 0, 0
 --     a label                   two bytes      415      159, 1
 --
--- A list of numbers or labels is laid out one after the other, in its order, with nothing between.
+-- A list of numbers or labels is laid out one after the other, in its order, with nothing between. So the answers have these lengths:
+--
+--     parametersBytes     N P b r K q M L                       32 bytes
+--     rankBytes           S                                     4 bytes
+--     startBytes          role s n shaping mark register Z      28 bytes
+--     codedBytes          N, and the next state                 32 bytes
 use mathlib.Core.List.{List, [], _∷_, _++_}
 use Prim.Native.Nat.{ℕ, _+_, _*_, _/_, _%_}
 
@@ -33,3 +38,16 @@ unfoldable pub labelsIn : List ℕ → List ℕ
 labelsIn [] = []
 labelsIn (low ∷ []) = []
 labelsIn (low ∷ high ∷ bytes) = (low + 256 * high) ∷ labelsIn bytes
+
+-- the bytes of each answer, four for a number
+abbrev pub parametersBytes : ℕ
+parametersBytes = 4 * 8
+
+abbrev pub rankBytes : ℕ
+rankBytes = 4
+
+abbrev pub startBytes : ℕ
+startBytes = 4 * 7
+
+abbrev pub codedBytes : ℕ
+codedBytes = 4 + startBytes

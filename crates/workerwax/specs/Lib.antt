@@ -1,7 +1,8 @@
 -- What C sees (docs/INTERFACE.md): bytes.
 --     Layout    numbers and labels as bytes
 --     Calls     what each call answers, for all inputs
---     Lending   how many labels the coder is lent
+-- and for private functions
+--     Lending   how much the coder is lent, and the ranker shown
 pub mod Layout
 pub mod Calls
 pub mod Lending

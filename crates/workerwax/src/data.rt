@@ -1,9 +1,11 @@
 // One data frame: bits to the bytes of labels, and back.
 ghost use mathlib.Core.Path.{_≡_};
 ghost use lib.ListN.{length};
+ghost use Rattle.line.specs.Asked.{asked};
 ghost use Rattle.coder.specs.State.{stateOf};
 ghost use Rattle.workerwax.specs.Calls.{WriteCall, ReadCall, codedNumbers};
 ghost use Rattle.workerwax.specs.Lending.{lentLabels};
+use crate::asked::asked_of;
 use crate::layout::narrow;
 use crate::layout::put_labels;
 use crate::layout::put_words;
@@ -35,18 +37,19 @@ fn lent_labels(labels: usize, answer: usize) -> usize
     labels / 2
 }
 
-// N, and the seven numbers of the state that comes next.
+// N, and the numbers of the state that comes next.
 fn numbers_of(coded: Coded) -> [u64; 8]
     ensures { λ r. ⌜ r ≡ codedNumbers coded ⌝ }
 {
     let st = coded.state;
+    let asked = st.asked;
     [
         coded.bits,
-        st.role,
-        st.s,
-        st.n,
-        st.shaping,
-        st.mark,
+        asked.role,
+        asked.s,
+        asked.n,
+        asked.shaping,
+        asked.mark,
         st.register,
         st.z,
     ]
@@ -66,20 +69,13 @@ pub extern "C" fn ww_write(
     labels: &mut [u8],
     answer: &mut [u8],
 ) -> u32
-    ensures { λ r. ⌜ WriteCall (stateOf role s n shaping mark register z) (now (bits .entry)) (now (labels .entry)) (now (answer .entry)) r (now (labels .exit)) (now (answer .exit)) ⌝ }
+    ensures { λ r. ⌜ WriteCall (stateOf (asked role s n shaping mark) register z) (now (bits .entry)) (now (labels .entry)) (now (answer .entry)) r (now (labels .exit)) (now (answer .exit)) ⌝ }
 {
-    let st = State {
-        role,
-        s,
-        n,
-        shaping,
-        mark,
-        register,
-        z,
-    };
+    let asked = asked_of(role, s, n, shaping, mark);
+    let st = State { asked, register, z };
     let lent = lent_labels(labels.len(), answer.len());
     let mut space = blank();
-    let coded = coder::write(st, bits, &mut space[..lent]);
+    let coded = writer::write(st, bits, &mut space[..lent]);
     if coded.refusal != 0 {
         return narrow(coded.refusal);
     }
@@ -102,21 +98,14 @@ pub extern "C" fn ww_read(
     bits: &mut [u8],
     answer: &mut [u8],
 ) -> u32
-    ensures { λ r. ⌜ ReadCall (stateOf role s n shaping mark register z) (now (labels .entry)) (now (bits .entry)) (now (answer .entry)) r (now (bits .exit)) (now (answer .exit)) ⌝ }
+    ensures { λ r. ⌜ ReadCall (stateOf (asked role s n shaping mark) register z) (now (labels .entry)) (now (bits .entry)) (now (answer .entry)) r (now (bits .exit)) (now (answer .exit)) ⌝ }
 {
-    let st = State {
-        role,
-        s,
-        n,
-        shaping,
-        mark,
-        register,
-        z,
-    };
+    let asked = asked_of(role, s, n, shaping, mark);
+    let st = State { asked, register, z };
     let lent = lent_labels(labels.len(), answer.len());
     let mut space = blank();
     take_labels(&labels[..2 * lent], &mut space[..lent]);
-    let coded = coder::read(st, &space[..lent], bits);
+    let coded = reader::read(st, &space[..lent], bits);
     if coded.refusal != 0 {
         return narrow(coded.refusal);
     }

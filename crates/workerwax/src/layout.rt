@@ -1,13 +1,13 @@
 // Numbers and labels in bytes, lowest first.
 ghost use mathlib.Core.Path.{_≡_};
-ghost use Prim.Native.Nat.{_+_, _*_, _≤_};
+ghost use Prim.Native.Nat.{_+_, _*_, _^_, _≤_, _<_};
 ghost use lib.ListN.{length};
 ghost use Rattle.laws.specs.Put.{Put};
 ghost use Rattle.workerwax.specs.Layout.{word, words, labelBytes, labelsIn};
 
 // A refusal number as C gets it.
 pub fn narrow(refusal: u64) -> u32
-    requires { ⌜ refusal ≤ 14 ⌝ }
+    requires { ⌜ refusal < 2 ^ 32 ⌝ }
     ensures { λ r. ⌜ r ≡ refusal ⌝ }
 {
     refusal as u32

@@ -1,6 +1,6 @@
 // The mapper and the ranker (V.34, clause 9.4).
 ghost use mathlib.Core.Path.{_≡_};
-ghost use Rattle.rings.specs.Answers.{MapAnswer};
+ghost use Rattle.rings.specs.Mapping.{MapAnswer};
 ghost use Rattle.workerwax.specs.Calls.{RankCall};
 ghost use Rattle.workerwax.specs.Lending.{shownRings};
 use crate::layout::narrow;

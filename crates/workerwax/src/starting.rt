@@ -1,16 +1,18 @@
 // The settings of a line, and its two starts.
 ghost use mathlib.Core.Path.{_≡_};
-ghost use Prim.Native.Nat.{_≤_};
+ghost use Prim.Native.Nat.{_^_, _<_};
+ghost use Rattle.line.specs.Asked.{asked};
 ghost use Rattle.line.specs.Settings.{workedOf};
 ghost use Rattle.coder.specs.State.{stateOf, startedOf, shortStartedOf};
 ghost use Rattle.workerwax.specs.Calls.{ParametersCall, StartCall, stateNumbers};
+use crate::asked::asked_of;
 use crate::layout::narrow;
 use crate::layout::put_words;
 use coder::Started;
 use coder::State;
 use line::Worked;
 
-// N P b r K q M L of five settings.
+// N P b r K q M L of the settings that are asked for.
 #[no_mangle]
 pub extern "C" fn ww_parameters(
     role: u64,
@@ -20,9 +22,10 @@ pub extern "C" fn ww_parameters(
     mark: u64,
     answer: &mut [u8],
 ) -> u32
-    ensures { λ r. ⌜ ParametersCall (workedOf role s n shaping mark) (now (answer .entry)) r (now (answer .exit)) ⌝ }
+    ensures { λ r. ⌜ ParametersCall (workedOf (asked role s n shaping mark)) (now (answer .entry)) r (now (answer .exit)) ⌝ }
 {
-    let w = line::work_out(role, s, n, shaping, mark);
+    let asked = asked_of(role, s, n, shaping, mark);
+    let w = line::work_out(asked);
     let Worked::Accepted(c) = w else {
         return narrow(line::refusal_of(w));
     };
@@ -33,16 +36,25 @@ pub extern "C" fn ww_parameters(
     0
 }
 
-// The seven numbers of a state.
+// The numbers of a state.
 fn numbers_of(st: State) -> [u64; 7]
     ensures { λ r. ⌜ r ≡ stateNumbers st ⌝ }
 {
-    [st.role, st.s, st.n, st.shaping, st.mark, st.register, st.z]
+    let asked = st.asked;
+    [
+        asked.role,
+        asked.s,
+        asked.n,
+        asked.shaping,
+        asked.mark,
+        st.register,
+        st.z,
+    ]
 }
 
 // The state of a start into its answer.
 fn answer_start(begun: Started, answer: &mut [u8]) -> u32
-    requires { ⌜ begun .refusal ≤ 14 ⌝ }
+    requires { ⌜ begun .refusal < 2 ^ 32 ⌝ }
     ensures { λ r. ⌜ StartCall begun (now (answer .entry)) r (now (answer .exit)) ⌝ }
 {
     if begun.refusal != 0 {
@@ -68,9 +80,10 @@ pub extern "C" fn ww_start(
     z: u64,
     answer: &mut [u8],
 ) -> u32
-    ensures { λ r. ⌜ StartCall (startedOf (stateOf role s n shaping mark register z)) (now (answer .entry)) r (now (answer .exit)) ⌝ }
+    ensures { λ r. ⌜ StartCall (startedOf (stateOf (asked role s n shaping mark) register z)) (now (answer .entry)) r (now (answer .exit)) ⌝ }
 {
-    let begun = coder::start(role, s, n, shaping, mark, register, z);
+    let asked = asked_of(role, s, n, shaping, mark);
+    let begun = coder::start(asked, register, z);
     answer_start(begun, answer)
 }
 

@@ -1,56 +1,50 @@
 -- `scrambler::scramble_part` meets its contract: each turn stores the next bit and pushes it. Assumes nothing.
-use mathlib.Core.List.{List}
-use mathlib.Core.Path.{_≡_, refl, sym, ap, subst, _∙_}
-use Prim.Native.Nat.{ℕ, _+_, _-_, _≤_, _<_, _^_}
+use mathlib.Core.Path.{sym, subst}
+use Prim.Native.Nat.{ℕ, _-_, _≤_}
 use native.Mathlib.Omega.{arith}
-use lib.ListN.{length, getD, drop}
-use Rattle.laws.proofs.Digitals.{bits-at}
-use Rattle.scrambler.specs.Scrambler.{pushAll, scramble}
+use lib.ListN.{length}
+use Rattle.scrambler.specs.Scrambler.{scrambledBit}
 use Rattle.scrambler.proofs.Inverse.{bit-out}
-use Rattle.scrambler.proofs.Slices.{Going, going-start, going-end, scramble-none, pushAll-nil, scramble-more}
+use Rattle.scrambler.proofs.Slices.{Going, Turn, going-none, turn-of, going-more, scrambled}
 use Rattle.scrambler.proofs.scramble_part.Statement.{statement}
 use Rattle.scrambler.proofs.scramble_part.Tie as tie
 
 abbrev Inv-loop : tie.InvT-loop
-Inv-loop role register bits out₀ held₀ i₀ out held i =
-    Going (scramble role register bits) (pushAll register (scramble role register bits)) (length bits) out₀ out held i
-    (scramble role held (drop i bits))
-    (pushAll held (scramble role held (drop i bits)))
+Inv-loop role register bits out₀ held₀ i₀ out held i = Going (scrambledBit role) role register bits out₀ out held i
 
 abbrev μ-loop : tie.MeasureT-loop
 μ-loop role register bits out₀ held₀ i₀ out held i = length bits - i
 
 loop-holds : tie.Need-loop-holds Inv-loop μ-loop
-loop-holds c = going-start _ _ _ _ _ (c .before .before .pre .small)
+loop-holds c = going-none _ _ _ _ _ (c .before .before .pre .small)
 
--- the bits at hand are bits
-bit-here : (k : tie.In-loop Inv-loop μ-loop) → getD (k .before .before .before .before .args .bits .now) (k .before .loop .i) 0 ≤ 1
-bit-here k = bits-at (k .before .before .before .before .args .bits .now) (k .before .loop .i) (k .before .before .before .before .pre .binary)
+-- what is known in a turn, and of the bit that it stores
+known :
+    (k : tie.In-loop Inv-loop μ-loop)
+    → let l = k .before in
+    Turn (l .before .before .before .args .bits .now) (l .loop .out) (l .loop .held) (l .loop .i)
+known k = let l = k .before in turn-of _ _ _ _ _ _ _ _ (l .loop .inv) (l .before .before .before .pre)
+
+stored : (k : tie.After-through Inv-loop μ-loop) → k .through .result ≤ 1
+stored k = subst (λ (x : ℕ). x ≤ 1) (sym (k .through .ensures)) (bit-out _ _ _)
 
 shared-slice-read-through : tie.Need-shared-slice-read-through Inv-loop μ-loop
 shared-slice-read-through c = omega arith
 
 cast-through : tie.Need-cast-through Inv-loop μ-loop
-cast-through c = omega (arith, bit-here (c .before))
+cast-through c = omega (arith, known (c .before) .bit)
 
 through-requires : tie.Need-through-requires Inv-loop μ-loop
-through-requires c κs = bit-here (c .before)
-
--- what is stored is a bit, and there is room for it
-small-out : (k : tie.After-through Inv-loop μ-loop) → k .through .result ≤ 1
-small-out k = subst (λ (x : ℕ). x ≤ 1) (sym (k .through .ensures)) (bit-out _ _ _)
-
-room : (k : tie.After-through Inv-loop μ-loop) → length (k .before .before .before .before .before .before .args .bits .now) ≤ length (k .before .before .before .loop .out)
-room k = let g = k .before .before .before .loop .inv .size in let p = k .before .before .before .before .before .before .pre .room in omega arith
+through-requires c κs = known (c .before) .bit
 
 cast-out : tie.Need-cast-out Inv-loop μ-loop
-cast-out c = omega (arith, small-out c)
+cast-out c = omega (arith, stored c)
 
 slice-write-out : tie.Need-slice-write-out Inv-loop μ-loop
-slice-write-out c = omega (arith, room c)
+slice-write-out c = omega (arith, known (c .before .before) .room)
 
 pushed-requires : tie.Need-pushed-requires Inv-loop μ-loop
-pushed-requires c κs = (c .before .before .before .loop .inv .small, small-out c)
+pushed-requires c κs = (known (c .before .before) .small, stored c)
 
 add-i : tie.Need-add-i Inv-loop μ-loop
 add-i c = omega arith
@@ -60,24 +54,16 @@ loop-less c = omega arith
 
 loop-again : tie.Need-loop-again Inv-loop μ-loop
 loop-again c =
-    let k = c .before .before .before .before in
-    let a = k .before .before .before in
-    scramble-more (a .args .role) (a .args .register) (a .args .bits .now) (a .args .out .now) (k .loop .out) (k .loop .held) (k .loop .i)
-    (c .before .through .result) (c .pushed .result) (k .loop .inv) (c .before .before .before .loop-test .taken) (room (c .before))
-    (c .before .through .ensures) (c .pushed .ensures)
+    let through = c .before in
+    let turn = through .before .before in
+    going-more _ _ _ _ _ _ _ _ (turn .before .loop .inv) (turn .loop-test .taken) _ _ _ (known turn) (through .through .ensures)
+    (through .through .ensures) (c .pushed .ensures)
 
 same-length : tie.Need-same-length Inv-loop μ-loop
 same-length c = c .before .loop .inv .size
 
 returns : tie.Need-returns Inv-loop μ-loop
-returns c =
-    let k = c .before in
-    let a = k .before .before .before in
-    let none = scramble-none (a .args .role) (k .loop .held) (a .args .bits .now) (k .loop .i) (omega arith) in
-    record {
-      slice = going-end _ _ _ _ _ _ _ _ _ (k .loop .inv) (omega arith) none;
-      held = sym (pushAll-nil (k .loop .held)) ∙ (ap (pushAll (k .loop .held)) (sym none) ∙ k .loop .inv .register);
-    }
+returns c = scrambled _ _ _ _ _ _ _ (c .before .loop .inv) (omega arith)
 
 pub scramble-part-spec : {M : Type 1} → statement M
 scramble-part-spec =

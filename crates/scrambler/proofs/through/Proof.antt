@@ -1,4 +1,5 @@
--- `scrambler::through` meets its contract: a place of the register is a digit of it, by a power of 2 that the code writes out. Assumes nothing.
+-- `scrambler::through` meets its contract: a place of the register is a digit of it, by a power of 2 that the code writes
+-- out. Assumes nothing.
 use mathlib.Core.Path.{refl}
 use borrow.Author.Needs.{needs}
 use borrow.Author.Tests.{eq-eqb, ne-eqb}

@@ -8,25 +8,22 @@ use Rattle.cases.proofs.show.bytes.Statement.{statement}
 use Rattle.cases.proofs.show.bytes.Tie as tie
 
 abbrev Inv-loop : tie.InvT-loop
-Inv-loop list i₀ t3 i = i ≤ length list
+Inv-loop list i₀ i = i ≤ length list
 
 abbrev μ-loop : tie.MeasureT-loop
-μ-loop list i₀ t3 i = length list - i
+μ-loop list i₀ i = length list - i
 
 loop-holds : tie.Need-loop-holds Inv-loop μ-loop
 loop-holds c = search needs
 
-slice-aggregate-say : tie.Need-slice-aggregate-say Inv-loop μ-loop
-slice-aggregate-say c = search needs
+shared-slice-read-spaced : tie.Need-shared-slice-read-spaced Inv-loop μ-loop
+shared-slice-read-spaced c = search needs
 
-shared-slice-read-say : tie.Need-shared-slice-read-say Inv-loop μ-loop
-shared-slice-read-say c = search needs
+cast-spaced : tie.Need-cast-spaced Inv-loop μ-loop
+cast-spaced c = omega (arith, c .shared-slice-known2 .given (c .before .before .loop .i))
 
-cast-say : tie.Need-cast-say Inv-loop μ-loop
-cast-say c = omega (arith, c .shared-slice-known2 .given (c .before .before .before .loop .i))
-
-say-requires : tie.Need-say-requires Inv-loop μ-loop
-say-requires c κs = search needs
+spaced-requires : tie.Need-spaced-requires Inv-loop μ-loop
+spaced-requires c κs = search needs
 
 add-i : tie.Need-add-i Inv-loop μ-loop
 add-i c = search needs
@@ -47,10 +44,9 @@ bytes-spec =
     Inv-loop
     μ-loop
     loop-holds
-    slice-aggregate-say
-    shared-slice-read-say
-    cast-say
-    say-requires
+    shared-slice-read-spaced
+    cast-spaced
+    spaced-requires
     add-i
     loop-less
     loop-again

@@ -43,15 +43,20 @@ mul-symbol-in-range c = omega arith
 symbol-in-range-requires : tie.Need-symbol-in-range-requires Inv-loop μ-loop
 symbol-in-range-requires c κs = omega arith
 
+-- from a turn back to the function's start
+abbrev start-of : tie.In-loop Inv-loop μ-loop → tie.Start Inv-loop μ-loop
+start-of k = k .before .before .before
+
 -- the test of one symbol, and what is left
 here :
     (k : tie.After-symbol-in-range Inv-loop μ-loop)
-    → let a = k .before .before .before .before .args in
+    → let a = start-of (k .before) .args in
     let j = k .before .before .loop .j in
-    inRange (a .m) (a .q) 4 (a .labels .now) ≡ (k .symbol-in-range .result && inRange (a .m) (a .q) (4 - (j + 1)) (drop (4 * (j + 1)) (a .labels .now)))
+    inRange (a .m) (a .q) 4 (a .labels .now)
+    ≡ (k .symbol-in-range .result && inRange (a .m) (a .q) (4 - (j + 1)) (drop (4 * (j + 1)) (a .labels .now)))
 here k =
     let l = k .before .before .loop in
-    let s = k .before .before .before .before in
+    let s = start-of (k .before) in
     sym (l .inv .1) ∙ (range-next _ _ _ (l .j) (k .before .loop-test .taken) ∙ rw (k .symbol-in-range .ensures, shifted-one _ (few s)))
 
 returns : tie.Need-returns Inv-loop μ-loop

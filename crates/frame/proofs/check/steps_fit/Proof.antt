@@ -31,12 +31,16 @@ add-label-at c = omega arith
 label-at-requires : tie.Need-label-at-requires Inv-loop μ-loop
 label-at-requires c κs = omega arith
 
+-- from a turn back to the function's start
+abbrev start-of : tie.In-loop Inv-loop μ-loop → tie.Start Inv-loop μ-loop
+start-of k = k .before .before .before
+
 -- the Z that was read is at most 3
 low : (k : tie.After-label-at Inv-loop μ-loop) → k .label-at .result ≤ 3
-low k = rw (k .label-at .ensures) (k .before .before .before .before .pre .turns (k .before .before .loop .j) (k .before .loop-test .taken))
+low k = rw (k .label-at .ensures) (start-of (k .before) .pre .turns (k .before .before .loop .j) (k .before .loop-test .taken))
 
-step-of-requires : tie.Need-step-of-requires Inv-loop μ-loop
-step-of-requires c κs = (c .before .before .loop .inv .1, low c)
+z-step-requires : tie.Need-z-step-requires Inv-loop μ-loop
+z-step-requires c κs = (c .before .before .loop .inv .1, low c)
 
 step-fits-requires : tie.Need-step-fits-requires Inv-loop μ-loop
 step-fits-requires c κs = tt
@@ -44,15 +48,18 @@ step-fits-requires c κs = tt
 -- the test of one symbol, and what is left
 here :
     (k : tie.After-step-fits Inv-loop μ-loop)
-    → let a = k .before .before .before .before .before .before .args in
-    let j = k .before .before .before .before .loop .j in
+    → let t = k .before .before .before in
+    let a = start-of t .args in
+    let j = t .before .loop .j in
     stepsFit (a .threes) (a .z) 4 (a .labels .now)
-    ≡ (k .step-fits .result && stepsFit (a .threes - (j + 1)) (getD (a .labels .now) (4 * j + 2) 0) (4 - (j + 1)) (drop (4 * (j + 1)) (a .labels .now)))
+    ≡ (k .step-fits .result
+    && stepsFit (a .threes - (j + 1)) (getD (a .labels .now) (4 * j + 2) 0) (4 - (j + 1)) (drop (4 * (j + 1)) (a .labels .now)))
 here k =
-    let l = k .before .before .before .before .loop in
+    let t = k .before .before .before in
+    let l = t .before .loop in
     sym (l .inv .2)
-    ∙ (step-next _ _ (l .j) (l .turned) (k .before .before .before .loop-test .taken)
-    ∙ rw (k .step-fits .ensures, k .before .step-of .ensures, k .before .before .label-at .ensures))
+    ∙ (step-next _ _ (l .j) (l .turned) (t .loop-test .taken)
+    ∙ rw (k .step-fits .ensures, k .before .z-step .ensures, k .before .before .label-at .ensures))
 
 returns : tie.Need-returns Inv-loop μ-loop
 returns c = let k = c .before in sym (here k ∙ rw (not-true (k .step-fits .result) (c .if1 .taken)))
@@ -65,7 +72,12 @@ loop-less c = omega arith
 
 loop-again : tie.Need-loop-again Inv-loop μ-loop
 loop-again c =
-    (omega arith, low (c .before .before .before), rw (c .before .before .before .label-at .ensures) (sym (here (c .before) ∙ rw (not-false (c .before .step-fits .result) (c .if1 .left)))))
+    let k = c .before in
+    let read = k .before .before in (
+      omega arith,
+      low read,
+      rw (read .label-at .ensures) (sym (here k ∙ rw (not-false (k .step-fits .result) (c .if1 .left)))),
+    )
 
 returns-2 : tie.Need-returns-2 Inv-loop μ-loop
 returns-2 c =
@@ -82,7 +94,7 @@ steps-fit-spec =
     mul-label-at
     add-label-at
     label-at-requires
-    step-of-requires
+    z-step-requires
     step-fits-requires
     returns
     add-j

@@ -8,6 +8,16 @@ use borrow.Author.Needs.{needs}
 use Rattle.frame.proofs.check.symbol_in_range.Statement.{statement}
 use Rattle.frame.proofs.check.symbol_in_range.Tie as tie
 
+-- from each label that is in its range back to the function's start
+abbrev first : tie.Else1 → tie.Start
+first k = k .before .before .before
+
+abbrev second : tie.Else2 → tie.Start
+second k = first (k .before .before)
+
+abbrev third : tie.Else3 → tie.Start
+third k = second (k .before .before)
+
 label-at-requires : tie.Need-label-at-requires
 label-at-requires c κs = search needs
 
@@ -21,7 +31,7 @@ label-at-requires-2 : tie.Need-label-at-requires-2
 label-at-requires-2 c κs = search needs
 
 returns-2 : tie.Need-returns-2
-returns-2 c = let a = c .before .before .before .before .before .args in second-fails (a .top) (a .labels .now) (a .at) (omega arith) (omega arith)
+returns-2 c = let a = first (c .before .before) .args in second-fails (a .top) (a .labels .now) (a .at) (omega arith) (omega arith)
 
 add-label-at-2 : tie.Need-add-label-at-2
 add-label-at-2 c = search needs
@@ -30,7 +40,9 @@ label-at-requires-3 : tie.Need-label-at-requires-3
 label-at-requires-3 c κs = search needs
 
 returns-3 : tie.Need-returns-3
-returns-3 c = let a = c .before .before .before .before .before .before .before .args in turn-fails (a .top) (a .labels .now) (a .at) (omega arith) (omega arith) (omega arith)
+returns-3 c =
+    let a = second (c .before .before) .args in
+    turn-fails (a .top) (a .labels .now) (a .at) (omega arith) (omega arith) (omega arith)
 
 add-label-at-3 : tie.Need-add-label-at-3
 add-label-at-3 c = search needs
@@ -40,7 +52,7 @@ label-at-requires-4 c κs = search needs
 
 returns-4 : tie.Need-returns-4
 returns-4 c =
-    let a = c .before .before .before .before .before .before .before .before .args in
+    let a = third (c .before) .args in
     ap (λ (x : ℕ). leb x 1) (c .label-at4 .ensures) ∙ i1-decides (a .top) (a .labels .now) (a .at) (omega arith) (omega arith) (omega arith)
 
 pub symbol-in-range-spec : {M : Type 1} → statement M

@@ -1,119 +1,157 @@
--- `frame::read::put_symbol` meets its contract: five parts, one after the other. Assumes nothing.
-use mathlib.Core.Bool.{Bool, cond}
+-- `frame::read::put_symbol` meets its contract: five parts, one behind the other. Assumes nothing.
+use mathlib.Core.Bool.{Bool, true, false, cond}
 use mathlib.Core.List.{List, [], _∷_, _++_, append-assoc}
 use mathlib.Core.Path.{_≡_, refl, _∙_}
-use Prim.Native.Nat.{ℕ, _+_, _^_, _≤_, _<_}
+use Prim.Native.Nat.{ℕ, _+_, _*_, _^_, _≤_, _<_}
 use native.Mathlib.Omega.{arith}
-use lib.ListN.{length, length-append}
-use Rattle.laws.specs.Digits.{digits}
-use Rattle.laws.proofs.Positions.{put, put-put}
+use lib.ListN.{length}
+use Rattle.laws.specs.Put.{put, Put}
+use Rattle.laws.proofs.Puts.{put-more}
+use Rattle.bits.specs.Digits.{digits}
+use Rattle.bits.proofs.Digitals.{length-digits}
 use Rattle.frame.specs.Reading.{symbolBits}
 use Rattle.frame.specs.Shape.{symbolLength}
 use Rattle.frame.specs.declared.symbol.Symbol.{Symbol}
-use Rattle.laws.proofs.Digitals.{length-digits}
-use Rattle.frame.proofs.Sixteen.{third-length, symbol-size}
 use borrow.Author.Needs.{needs}
 use Rattle.frame.proofs.read.put_symbol.Statement.{statement}
 use Rattle.frame.proofs.read.put_symbol.Tie as tie
 
--- the five parts are one
-whole :
-    (l l1 l2 l3 l4 l5 : List ℕ) (at next q : ℕ) (three : Bool) (s : Symbol)
-    → at + symbolLength q three ≤ length l
-    → l1 ≡ put l at 1 (s .i1 ∷ [])
-    → l2 ≡ put l1 (at + 1) 1 (s .i2 ∷ [])
-    → l3 ≡ put l2 (at + 2) (cond three 1 0) (cond three (s .i3 ∷ []) [])
-    → next ≡ at + 2 + cond three 1 0
-    → l4 ≡ put l3 next q (digits q (s .first))
-    → l5 ≡ put l4 (next + q) q (digits q (s .second))
-    → l5 ≡ put l at (symbolLength q three) (symbolBits q three s)
+-- the first three parts, and what a symbol is behind them
+abbrev heads : Bool → Symbol → List ℕ
+heads three s = s .i1 ∷ s .i2 ∷ cond three (s .i3 ∷ []) []
+
+heads-length : (q : ℕ) (three : Bool) (s : Symbol) → length (heads three s) + 2 * q ≡ symbolLength q three
+heads-length q true s = omega arith
+heads-length q false s = omega arith
+
+third-length : (three : Bool) (x : ℕ) → length (cond three (x ∷ []) []) ≡ cond three 1 0
+third-length true x = refl
+third-length false x = refl
+
+parts : (q : ℕ) (three : Bool) (s : Symbol) → (heads three s ++ digits q (s .first)) ++ digits q (s .second) ≡ symbolBits q three s
 unfolding symbolBits
-whole l l1 l2 l3 l4 l5 at next q three s room e1 e2 e3 en e4 e5 =
-    let n : ℕ = cond three 1 0 in
-    let z = symbol-size q three in
-    let p2 : List ℕ = s .i1 ∷ s .i2 ∷ [] in
-    let third : List ℕ = cond three (s .i3 ∷ []) [] in
-    let p3 : List ℕ = p2 ++ third in
-    let size3 : length p3 ≡ 2 + n = omega (arith, third-length three (s .i3)) in
-    let d = digits q (s .first) in
-    let e = digits q (s .second) in
-    let size4 : length (p3 ++ d) ≡ 2 + n + q = omega (arith, length-append p3 d, length-digits q (s .first)) in
-    let two : l2 ≡ put l at 2 p2 = e2 ∙ rw e1 (put-put l (s .i1 ∷ []) at 1 (omega arith) refl (at + 1) 1 (s .i2 ∷ []) refl) in
-    let first-three : l3 ≡ put l at (2 + n) p3 = e3 ∙ rw two (put-put l p2 at 2 (omega arith) refl (at + 2) n third refl) in
-    let four : l4 ≡ put l at (2 + n + q) (p3 ++ d) = e4 ∙ rw first-three (put-put l p3 at (2 + n) (omega arith) size3 next q d (omega arith)) in
-    let all : l5 ≡ put l at (2 + n + q + q) ((p3 ++ d) ++ e) = e5 ∙ rw four (put-put l (p3 ++ d) at (2 + n + q) (omega arith) size4 (next + q) q e (omega arith)) in
-    all ∙ rw (z, append-assoc third d e)
+parts q three s = append-assoc (heads three s) (digits q (s .first)) (digits q (s .second))
+
+-- digits put at a place end behind them
+put-number : (n x : ℕ) {a b : List ℕ} {at next : ℕ} → b ≡ put a at (digits n x) → next ≡ at + n → Put (digits n x) a b at next
+put-number n x e is-next = record { buffer = e; place = rw (length-digits n x) is-next }
+
+-- from each call back to the one before it
+abbrev start : tie.After-put-bit → tie.Start
+start k = k .before .before .before
+
+abbrev first : tie.After-put-bit2 → tie.After-put-bit
+first k = k .before .before .before .before
+
+abbrev second : tie.After-put-third → tie.After-put-bit2
+second k = k .before .before .before .before
+
+abbrev third : tie.After-put-digits → tie.After-put-third
+third k = k .before .before .before .before
+
+abbrev fourth : tie.After-put-digits2 → tie.After-put-digits
+fourth k = k .before .before .before .before
+
+-- the parts so far are put, and the slice is as long as it was
+record Done (bits part after : List ℕ) (at next : ℕ) : Type 0 where
+  parted : Put part bits after at next
+  long : length after ≡ length bits
+
+done-one :
+    (k : tie.After-put-bit)
+    → let a = start k .args in
+    Done (a .bits .now) (a .symbol .i1 ∷ []) (k .put-bit .last .1 .0) (a .at) (a .at + 1)
+done-one k = record { parted = record { buffer = k .put-bit .ensures; place = refl }; long = k .put-bit .kept .1 .0 }
+
+done-two :
+    (k : tie.After-put-bit2)
+    → let a = start (first k) .args in
+    Done (a .bits .now) (a .symbol .i1 ∷ a .symbol .i2 ∷ []) (k .put-bit2 .last .1 .0) (a .at) (a .at + 2)
+done-two k =
+    let d = done-one (first k) in
+    record {
+      parted =
+          put-more (omega (arith, start (first k) .pre .3)) (d .parted) (record { buffer = k .put-bit2 .ensures; place = omega arith });
+      long = k .put-bit2 .kept .1 .0 ∙ d .long;
+    }
+
+done-three :
+    (k : tie.After-put-third)
+    → let a = start (first (second k)) .args in
+    Done (a .bits .now) (heads (a .three) (a .symbol)) (k .put-third .last .1 .1 .0) (a .at) (k .put-third .result)
+done-three k =
+    let d = done-two (second k) in
+    record {
+      parted = put-more (omega (arith, start (first (second k)) .pre .3)) (d .parted) (k .put-third .ensures);
+      long = k .put-third .kept .1 .1 .0 ∙ d .long;
+    }
+
+-- the slice has room for all of them
+room : (s : tie.Start) → s .args .at + (length (heads (s .args .three) (s .args .symbol)) + 2 * s .args .q) ≤ length (s .args .bits .now)
+room s = omega (arith, s .pre .3, heads-length (s .args .q) (s .args .three) (s .args .symbol))
+
+-- behind I3 the digits have room
+room-behind :
+    (k : tie.After-put-third)
+    → let s = start (first (second k)) in
+    (k .put-third .result + 2 * s .args .q ≤ length (k .put-third .last .1 .1 .0)) × (length (k .put-third .last .1 .1 .0) < 2 ^ 64)
+room-behind k =
+    let d = done-three k in
+    let s = start (first (second k)) in
+    (omega (arith, room s, d .parted .place, d .long), omega (arith, s .good, d .long))
 
 put-bit-requires : tie.Need-put-bit-requires
-put-bit-requires c κs =
-    let s = c .before .before in
-    (s .pre .0, omega (arith, symbol-size (s .args .q) (s .args .three)))
+put-bit-requires c κs = let s = c .before .before in (s .pre .0, omega (arith, room s))
 
 add-put-bit : tie.Need-add-put-bit
 add-put-bit c = search needs
 
 put-bit-requires-2 : tie.Need-put-bit-requires-2
 put-bit-requires-2 c κs =
-    let s = c .before .before .before .before .before .before in
-    (s .pre .1, omega (arith, symbol-size (s .args .q) (s .args .three), c .before .before .before .put-bit .kept .1 .0))
+    let k = c .before .before .before in
+    (start k .pre .1, omega (arith, room (start k), done-one k .long))
 
 add-put-third : tie.Need-add-put-third
 add-put-third c = search needs
 
 put-third-requires : tie.Need-put-third-requires
 put-third-requires c κs =
-    let s = c .before .before .before .before .before .before .before .before .before .before in
-    (s .pre .2, omega (arith, symbol-size (s .args .q) (s .args .three), c .before .before .before .before .before .before .before .put-bit .kept .1 .0, c .before .before .before .put-bit2 .kept .1 .0))
-
--- after I3 the digits have room, and the slice is as long as it was
-room :
-    (k : tie.After-put-third)
-    → let q = k .before .before .before .before .before .before .before .before .before .before .before .args .q in
-    let bits = k .put-third .last .1 .1 .0 in
-    (k .put-third .result + q + q ≤ length bits) × (length bits < 2 ^ 64)
-room k =
-    let s = k .before .before .before .before .before .before .before .before .before .before .before in
-    let size = symbol-size (s .args .q) (s .args .three) in
-    let at = k .put-third .ensures .1 in
-    let kept = k .put-third .kept .1 .1 .0 in
-    let kept2 = k .before .before .before .before .put-bit2 .kept .1 .0 in
-    let kept1 = k .before .before .before .before .before .before .before .before .put-bit .kept .1 .0 in
-    (omega (arith, s .pre .3), omega (arith, s .good))
+    let k = c .before .before .before in
+    let s = start (first k) in
+    (s .pre .2, omega (arith, third-length (s .args .three) (s .args .symbol .i3), room s, done-two k .long))
 
 put-digits-requires : tie.Need-put-digits-requires
-put-digits-requires c κs = omega (arith, room (c .before .before .before))
+put-digits-requires c κs = omega (arith, room-behind (c .before .before .before))
 
 add-put-digits : tie.Need-add-put-digits
-add-put-digits c = omega (arith, room (c .before .before .before .before .before .before .before))
+add-put-digits c = omega (arith, room-behind (third (c .before .before .before)))
 
 put-digits-requires-2 : tie.Need-put-digits-requires-2
-put-digits-requires-2 c κs = omega (arith, room (c .before .before .before .before .before .before .before), c .before .before .before .put-digits .kept .1 .1 .0)
+put-digits-requires-2 c κs =
+    let k = c .before .before .before in
+    omega (arith, room-behind (third k), k .put-digits .kept .1 .1 .0)
 
 mul-result : tie.Need-mul-result
 mul-result c = search needs
 
 add-result : tie.Need-add-result
-add-result c = omega (arith, room (c .before .before .before .before .before .before .before .before .before .before))
+add-result c = omega (arith, room-behind (third (fourth (c .before .before))))
 
 same-length : tie.Need-same-length
 same-length c = search needs
 
 returns : tie.Need-returns
 returns c =
-    let third = c .before .before .before .before .before .before .before .before .before .before in
-    let bit2 = third .before .before .before .before in
-    let bit1 = bit2 .before .before .before .before in
-    let s = bit1 .before .before .before in
-    let a = s .args in (
-      whole (a .bits .now) _ _ _ _ _ (a .at) (third .put-third .result) (a .q) (a .three) (a .symbol) (s .pre .3)
-          (bit1 .put-bit .ensures)
-          (bit2 .put-bit2 .ensures)
-          (third .put-third .ensures .0)
-          (third .put-third .ensures .1)
-          (c .before .before .before .before .before .before .put-digits .ensures)
-          (c .before .before .put-digits2 .ensures),
-      omega (arith, third .put-third .ensures .1, symbol-size (a .q) (a .three)),
-    )
+    let k = third (fourth (c .before .before)) in
+    let s = start (first (second k)) in
+    let a = s .args in
+    let inside : a .at ≤ length (a .bits .now) = omega (arith, room s) in
+    let d = fourth (c .before .before) .put-digits .ensures in
+    let e = c .before .before .put-digits2 .ensures in
+    rw (← parts (a .q) (a .three) (a .symbol))
+    (put-more inside
+    (put-more inside (done-three k .parted) (put-number (a .q) (a .symbol .first) d refl))
+    (put-number (a .q) (a .symbol .second) e (omega arith)))
 
 pub put-symbol-spec : {M : Type 1} → statement M
 put-symbol-spec =

@@ -1,6 +1,6 @@
 -- `frame::read::symbol_read` meets its contract. Assumes nothing.
 use mathlib.Core.List.{List}
-use mathlib.Core.Path.{_≡_, _∙_}
+use mathlib.Core.Path.{_≡_, ap, _∙_}
 use Prim.Native.Nat.{ℕ, _+_, _-_, _/_, _%_, _^_, _<_}
 use native.Mathlib.Nat.{add-zero}
 use native.Mathlib.Omega.{arith}
@@ -19,8 +19,8 @@ add-label-at c = search needs
 label-at-requires : tie.Need-label-at-requires
 label-at-requires c κs = search needs
 
-step-of-requires : tie.Need-step-of-requires
-step-of-requires c κs = search needs
+z-step-requires : tie.Need-z-step-requires
+z-step-requires c κs = search needs
 
 shl-scale : tie.Need-shl-scale
 shl-scale c = search needs
@@ -34,8 +34,15 @@ label-at-requires-2 c κs = search needs
 label-at-requires-3 : tie.Need-label-at-requires-3
 label-at-requires-3 c κs = search needs
 
+-- from each call back to the one before it
+abbrev start-of : tie.After-z-step → tie.Start
+start-of k = k .before .before .before
+
+abbrev step-of : tie.After-label-at4 → tie.After-z-step
+step-of k = k .before .before .before
+
 -- the shift is of fewer than 64
-few : (k : tie.After-step-of) → k .before .before .before .args .q < 64
+few : (k : tie.After-z-step) → start-of k .args .q < 64
 few k = omega arith
 
 -- the symbol from what was read
@@ -64,13 +71,14 @@ rem-t15 c = rw (shifted-one _ (few (c .before .before .before))) (pow-pos _)
 
 returns : tie.Need-returns
 returns c =
-    let a = c .before .before .before .before .before .before .args in
+    let k = step-of c in
+    let a = start-of k .args in
     symbol-is (a .q) (a .z) (a .at) (a .labels .now) _ _ _ _ _
     (c .before .before .label-at2 .ensures)
-    (c .before .before .before .step-of .ensures ∙ rw (c .before .before .before .before .label-at .ensures))
+    (k .z-step .ensures ∙ ap (λ (next : ℕ). (next + 4 - a .z) % 4) (k .before .label-at .ensures))
     (c .before .label-at3 .ensures)
     (c .label-at4 .ensures)
-    (shifted-one _ (few (c .before .before .before)))
+    (shifted-one _ (few k))
 
 pub symbol-read-spec : {M : Type 1} → statement M
 symbol-read-spec =
@@ -78,7 +86,7 @@ symbol-read-spec =
     (tie.spec
     add-label-at
     label-at-requires
-    step-of-requires
+    z-step-requires
     shl-scale
     add-label-at-2
     label-at-requires-2

@@ -8,7 +8,7 @@ use native.Mathlib.Nat.{add-zero}
 use native.Mathlib.Omega.{arith}
 use lib.ListN.{length, getD, take, drop}
 use lib.Seq.{getD-drop, drop-drop}
-use Rattle.laws.specs.Digits.{value}
+use Rattle.bits.specs.Digits.{value}
 use Rattle.frame.specs.Writing.{symbolOf}
 use Rattle.frame.specs.declared.symbol.Symbol.{Symbol}
 use Rattle.frame.proofs.symbol.symbol_at.Statement.{statement}
@@ -45,6 +45,13 @@ known k =
     let s = k .before .before in
     record { two = omega (arith, two-at-least (s .args .three), k .lead .ensures); inside = omega (arith, s .pre .0, k .lead .ensures) }
 
+-- from each call back to the one before it
+abbrev start-of : tie.After-lead → tie.Start
+start-of k = k .before .before
+
+abbrev lead-of : tie.After-third → tie.After-lead
+lead-of k = k .before .before .before
+
 lead-requires : tie.Need-lead-requires
 lead-requires c κs = tt
 
@@ -64,28 +71,28 @@ shared-slice-read-t11 : tie.Need-shared-slice-read-t11
 shared-slice-read-t11 c = omega (arith, known (c .before .before) .inside, known (c .before .before) .two)
 
 cast-t12 : tie.Need-cast-t12
-cast-t12 c = omega (arith, c .shared-slice-known3 .given (c .before .before .before .before .args .at + 1))
+cast-t12 c = omega (arith, c .shared-slice-known3 .given (start-of (c .before .before) .args .at + 1))
 
 third-requires : tie.Need-third-requires
-third-requires c κs = omega (arith, c .before .before .before .before .pre .0)
+third-requires c κs = omega (arith, start-of (c .before .before) .pre .0)
 
 value-at-requires : tie.Need-value-at-requires
 value-at-requires c κs =
-    let s = c .before .before .before .before .before in
-    (omega (arith, known (c .before .before .before) .inside), omega arith, s .pre .2)
+    let k = lead-of c in
+    (omega (arith, known k .inside), omega arith, start-of k .pre .2)
 
 add-value-at : tie.Need-add-value-at
-add-value-at c = omega (arith, known (c .before .before .before .before) .inside)
+add-value-at c = omega (arith, known (lead-of (c .before)) .inside)
 
 value-at-requires-2 : tie.Need-value-at-requires-2
 value-at-requires-2 c κs =
-    let s = c .before .before .before .before .before .before in
-    (omega (arith, known (c .before .before .before .before) .inside), omega arith, s .pre .2)
+    let k = lead-of (c .before) in
+    (omega (arith, known k .inside), omega arith, start-of k .pre .2)
 
 returns : tie.Need-returns
 returns c =
-    let k = c .before .before .before .before .before in
-    let a = k .before .before .args in
+    let k = lead-of (c .before .before) in
+    let a = start-of k .args in
     found (a .bits .now) (a .at) (a .q) (k .lead .result) _ _ _ (a .three) (k .lead .ensures) (c .before .before .third .ensures)
     (c .before .value-at .ensures) (c .value-at2 .ensures)
 

@@ -1,24 +1,11 @@
 -- `frame::write::put_four` meets its contract: four stores, one after the other, are four numbers in their place. Assumes nothing.
-use mathlib.Core.List.{List, [], _∷_}
-use mathlib.Core.Path.{_≡_}
-use Prim.Native.Nat.{ℕ, suc, _+_, _≤_}
 use native.Mathlib.Omega.{arith}
-use lib.ListN.{length, set, length-set}
+use lib.ListN.{length-set}
 use borrow.Author.Needs.{needs}
-use Rattle.laws.proofs.Emits.{put, put-by-stores}
+use Rattle.laws.proofs.Puts.{four-stores}
 use Rattle.frame.specs.Writing.{fourNumbers}
 use Rattle.frame.proofs.write.put_four.Statement.{statement}
 use Rattle.frame.proofs.write.put_four.Tie as tie
-
-four-stores :
-    (out : List ℕ) (at a b c d : ℕ)
-    → at + 4 ≤ length out
-    → set (set (set (set out at a) (at + 1) b) (at + 2) c) (at + 3) d ≡ put at (a ∷ b ∷ c ∷ d ∷ []) out
-four-stores out at a b c d room =
-    let second : at + 1 ≡ suc at = omega arith in
-    let third : at + 2 ≡ suc (suc at) = omega arith in
-    let fourth : at + 3 ≡ suc (suc (suc at)) = omega arith in
-    rw (second, third, fourth) (put-by-stores at (a ∷ b ∷ c ∷ d ∷ []) out room)
 
 mul-out : tie.Need-mul-out
 mul-out c = search needs

@@ -40,8 +40,9 @@ rings-of-shaping-requires c κs = search needs
 -- P, N and b worked out, q is at most 9
 uncoded : (c : tie.After-uncoded-of) → c .uncoded-of .result ≤ 9
 uncoded c =
-    rw (c .uncoded-of .ensures, c .before .before .high-of .ensures)
-    (uncoded-most _ (high-most _ _ (most (c .before .before .before)) (c .before .before .before .before .pre .fewest)))
+    let k = c .before .before in
+    rw (c .uncoded-of .ensures, k .high-of .ensures)
+    (uncoded-most _ (high-most _ _ (most (k .before)) (k .before .before .pre .fewest)))
 
 -- and M at most 18
 rings : (c : tie.After-rings-of-shaping) → c .rings-of-shaping .result ≤ 18

@@ -4,7 +4,7 @@ use Prim.Native.Nat.{_≤_, _-_}
 use mathlib.Core.Path.{_≡_, refl, sym, _∙_}
 use native.Mathlib.Omega.{arith}
 use lib.ListN.{length, drop}
-use Rattle.rings.specs.Answers.{allBelow}
+use Rattle.rings.specs.Mapping.{allBelow}
 use Rattle.rings.proofs.Tests.{below-fails, below-passes, below-none}
 use Rattle.rings.proofs.check.all_below.Statement.{statement}
 use Rattle.rings.proofs.check.all_below.Tie as tie

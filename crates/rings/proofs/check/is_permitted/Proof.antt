@@ -3,7 +3,7 @@ use Prim.Native.Nat.{_<_}
 use native.Mathlib.Omega.{arith}
 use borrow.Author.Tests.{le-leb, lt-leb}
 use Rattle.laws.proofs.Powers.{shifted-one}
-use Rattle.rings.specs.Answers.{permitted}
+use Rattle.rings.specs.Mapping.{permitted}
 use borrow.Author.Needs.{needs}
 use Rattle.rings.proofs.check.is_permitted.Statement.{statement}
 use Rattle.rings.proofs.check.is_permitted.Tie as tie

@@ -6,7 +6,7 @@ use native.Mathlib.Omega.{arith}
 use borrow.Author.Tests.{le-leb, lt-leb, eq-eqb, ne-eqb, not-false}
 use Rattle.laws.specs.Choice.{refusal}
 use Rattle.laws.proofs.Powers.{shifted-one}
-use Rattle.rings.specs.Answers.{permitted, mapRefusal}
+use Rattle.rings.specs.Mapping.{permitted, mapRefusal}
 use Rattle.rings.proofs.Tests.{permitted-is}
 use borrow.Author.Needs.{needs}
 use Rattle.rings.proofs.check.map_refusal.Statement.{statement}

@@ -29,9 +29,13 @@ shared-slice-read-t15 c = search needs
 shared-slice-read-t17 : tie.Need-shared-slice-read-t17
 shared-slice-read-t17 c = search needs
 
+-- the call, seen from its end
+abbrev begun : tie.After-shared-slice-known8 → tie.Start
+begun c = c .before .before .before .before .before .before .before .before
+
 returns : tie.Need-returns
 unfolding ofList
-returns c = asList-ofList _ (c .before .before .before .before .before .before .before .before .pre)
+returns c = asList-ofList _ (begun c .pre)
 
 pub load-spec : {M : Type 1} → statement M
 load-spec =

@@ -5,7 +5,7 @@ use native.Mathlib.Omega.{arith}
 use borrow.Author.Needs.{needs}
 use lib.ListN.{length}
 use Rattle.listing.specs.Sets.{asList}
-use Rattle.rings.specs.Answers.{Mappable, mappedRings, mapRefusal, mapOut}
+use Rattle.rings.specs.Mapping.{Mappable, mappedRings, mapRefusal, mapOut}
 use Rattle.rings.proofs.Answering.{map-accepted, map-left}
 use Rattle.rings.proofs.entry.map.Statement.{statement}
 use Rattle.rings.proofs.entry.map.Tie as tie
@@ -34,16 +34,23 @@ accepted k = map-accepted _ _ _ _ (none k)
 counts-of-requires : tie.Need-counts-of-requires
 counts-of-requires c κs = let p = accepted c .allowed in record { low = p .low; high = p .high }
 
+-- the counts, seen from where the rows are lent, and the tests, seen from where the rings are found
+abbrev counted : tie.After-rings-of-arg3 → tie.After-counts-of
+counted k = k .before .before .before .before
+
+abbrev tests-over : tie.After-rings-of → tie.Else1
+tests-over k = counted (k .before) .before
+
 rings-of-requires : tie.Need-rings-of-requires
 rings-of-requires c κs =
-    let k = c .before .before .before .before in
+    let k = counted c in
     let a = accepted (k .before) in
     (k .counts-of .ensures .rows, omega (arith, a .low, a .allowed .room))
 
 -- the rings are those that the mapper answers
 found :
     (k : tie.After-rings-of)
-    → let a = k .before .before .before .before .before .before .before .before .before .args in
+    → let a = tests-over k .before .before .before .args in
     k .rings-of .result .ring ≡ asList (mappedRings (a .m) (a .s))
 unfolding mappedRings
 found k = k .rings-of .ensures
@@ -51,16 +58,20 @@ found k = k .rings-of .ensures
 store-requires : tie.Need-store-requires
 store-requires c κs =
     let k = c .before in
-    (accepted (k .before .before .before .before .before .before) .eight, ap length (found k))
+    (accepted (tests-over k) .eight, ap length (found k))
 
 same-length : tie.Need-same-length
 same-length c = search needs
 
+-- the rings, seen from the end
+abbrev found-rings : tie.After-slice-known2 → tie.After-rings-of
+found-rings c = c .before .before .before .before
+
 returns-2 : tie.Need-returns-2
 unfolding mapOut
 returns-2 c =
-    let k = c .before .before .before .before in
-    let e = none (k .before .before .before .before .before .before) in
+    let k = found-rings c in
+    let e = none (tests-over k) in
     record { refusal = sym e; slice = rw e (c .before .before .store .ensures ∙ found k) }
 
 pub map-spec : {M : Type 1} → statement M

@@ -2,7 +2,7 @@
 -- below the counts of the two pairs. Assumes nothing.
 use mathlib.Core.Path.{sym, ap₂, _∙_}
 use native.Mathlib.Omega.{arith}
-use Rattle.rings.specs.Counts.{at}
+use Rattle.counts.specs.Counts.{at}
 use Rattle.rings.proofs.Fours.{Split, split, locatable}
 use Rattle.rings.proofs.four.four_at.Statement.{statement}
 use Rattle.rings.proofs.four.four_at.Tie as tie
@@ -22,6 +22,10 @@ known k =
     let pre = k .before .before .pre in
     split _ _ _ (at (k .before .before .args .pairs .now)) _ (pre .1 .0) (k .locate .ensures) (pre .1 .1 .1)
 
+-- the moment of that, seen from where the second pair is looked for
+abbrev located : tie.After-struct-known2 → tie.After-locate
+located c = c .before .before .before .before
+
 mul-first-pairs : tie.Need-mul-first-pairs
 mul-first-pairs c = omega (arith, known c .within)
 
@@ -32,23 +36,21 @@ rem-pair-at : tie.Need-rem-pair-at
 rem-pair-at c = known (c .before .before) .some
 
 pair-at-requires : tie.Need-pair-at-requires
-pair-at-requires c κs = (c .before .before .before .before .pre .0, known (c .before .before) .first)
+pair-at-requires c κs = let k = c .before .before in (k .before .before .pre .0, known k .first)
 
 sub-pair-at : tie.Need-sub-pair-at
 sub-pair-at c = known (c .before .before .before) .within
 
 div-pair-at : tie.Need-div-pair-at
-div-pair-at c = known (c .before .before .before .before) .some
+div-pair-at c = known (located c) .some
 
 pair-at-requires-2 : tie.Need-pair-at-requires-2
-pair-at-requires-2 c κs =
-    let k = c .before .before .before .before in
-    (k .before .before .pre .0, known k .second)
+pair-at-requires-2 c κs = let k = located c in (k .before .before .pre .0, known k .second)
 
 returns : tie.Need-returns
 returns c =
     ap₂ (λ x y. (x, y)) (c .before .before .pair-at .ensures) (c .pair-at2 .ensures)
-    ∙ sym (known (c .before .before .before .before .before) .whole)
+    ∙ sym (known (located (c .before)) .whole)
 
 pub four-at-spec : {M : Type 1} → statement M
 four-at-spec =

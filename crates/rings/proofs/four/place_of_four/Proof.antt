@@ -2,54 +2,64 @@
 -- large. Assumes nothing.
 use Prim.Native.Nat.{_*_}
 use native.Mathlib.Omega.{arith}
-use borrow.Author.Needs.{needs}
-use Rattle.listing.specs.Sets.{weight2}
-use Rattle.rings.specs.Counts.{at}
-use Rattle.rings.specs.Parts.{pairOf, fourOf}
+use Rattle.listing.specs.Sets.{Four, Below4, weight2}
+use Rattle.counts.specs.Counts.{at}
 use Rattle.rings.proofs.Fours.{summable, PlaceParts, place-parts}
 use Rattle.rings.proofs.four.place_of_four.Statement.{statement}
 use Rattle.rings.proofs.four.place_of_four.Tie as tie
 
+abbrev four : tie.Start → Four
+four s = let a = s .args in ((a .m1, a .m2), (a .m3, a .m4))
+
+small : (s : tie.Start) → Below4 18 (four s)
+small s = let below = s .pre .1 .1 in let high = s .pre .0 .high in omega arith
+
 add-c : tie.Need-add-c
-add-c c = search needs
+add-c c = omega (arith, small c)
 
 add-t : tie.Need-add-t
-add-t c = search needs
+add-t c = omega (arith, small c)
 
 add-t-2 : tie.Need-add-t-2
-add-t-2 c = search needs
+add-t-2 c = omega (arith, small c)
 
 place-of-pair-requires : tie.Need-place-of-pair-requires
-place-of-pair-requires c κs = search needs
+place-of-pair-requires c κs = (c .pre .0, c .pre .1 .1 .0)
 
 place-of-pair-requires-2 : tie.Need-place-of-pair-requires-2
-place-of-pair-requires-2 c κs = search needs
+place-of-pair-requires-2 c κs = let pre = c .before .pre in (pre .0, pre .1 .1 .1)
 
 lighter-sum-requires : tie.Need-lighter-sum-requires
 lighter-sum-requires c κs =
-    let k = c .before .before .before .before .before in
-    summable _ (fourOf (k .args .x)) _ (k .pre .0) (k .pre .1 .0) (c .lighter-sum-arg .given .0) (k .pre .1 .1)
+    let s = c .before .before .before in
+    summable _ (four s) _ (s .pre .0) (s .pre .1 .0) (c .lighter-sum-arg .given .0) (s .pre .1 .1)
+
+-- the call, seen from where the fours before this one are summed
+abbrev begun : tie.After-lighter-sum → tie.Start
+begun c = c .before .before .before .before
 
 mul-result : tie.Need-mul-result
-mul-result c = search needs
+mul-result c = omega (arith, small (begun c))
 
 element-copy-out-result : tie.Need-element-copy-out-result
-element-copy-out-result c = search needs
+element-copy-out-result c = omega (arith, small (begun c))
 
 -- the parts that are put together
 parts :
     (c : tie.After-lighter-sum)
-    → let k = c .before .before .before .before .before .before in
+    → let p = c .before .before in
+    let s = begun c in
     PlaceParts
-    (k .args .m)
-    (fourOf (k .args .x))
+    (s .args .m)
+    (four s)
     (c .lighter-sum .result)
-    (c .before .before .place-of-pair2 .result * at (k .args .pairs .now) (weight2 (pairOf (k .args .x .first))))
-    (c .before .before .before .place-of-pair .result)
+    (p .place-of-pair2 .result * at (s .args .pairs .now) (weight2 (four s .0)))
+    (p .before .place-of-pair .result)
 parts c =
-    let k = c .before .before .before .before .before .before in
-    place-parts _ (at (k .args .pairs .now)) (fourOf (k .args .x)) _ _ _ (k .pre .0) (k .pre .1 .0) (k .pre .1 .1)
-    (c .lighter-sum .ensures) (c .before .before .before .place-of-pair .ensures) (c .before .before .place-of-pair2 .ensures)
+    let p = c .before .before in
+    let s = begun c in
+    place-parts _ (at (s .args .pairs .now)) (four s) _ _ _ (s .pre .0) (s .pre .1 .0) (s .pre .1 .1)
+    (c .lighter-sum .ensures) (p .before .place-of-pair .ensures) (p .place-of-pair2 .ensures)
 
 mul-result-2 : tie.Need-mul-result-2
 mul-result-2 c = omega (arith, parts (c .before) .product-small)

@@ -3,7 +3,7 @@
 use mathlib.Core.Path.{_≡_}
 use native.Mathlib.Omega.{arith}
 use borrow.Author.Needs.{needs}
-use Rattle.rings.specs.Counts.{at}
+use Rattle.counts.specs.Counts.{at}
 use Rattle.rings.proofs.Eights.{weight, rest, ascending, weighed, locatable8, Split8, split8}
 use Rattle.rings.proofs.number.halves_of.Statement.{statement}
 use Rattle.rings.proofs.number.halves_of.Tie as tie
@@ -38,7 +38,8 @@ parts :
     (k : tie.After-locate)
     → let w = k .before .before in
     let s = w .before .before in
-    Split8 (s .args .m) (s .args .s) (s .pre .1) (w .locate-weight .result) (k .locate .result) (at (s .args .fours .now) (k .locate .result .at))
+    let found = k .locate .result in
+    Split8 (s .args .m) (s .args .s) (s .pre .1) (w .locate-weight .result) found (at (s .args .fours .now) (found .at))
 parts k =
     let w = k .before .before in
     let s = w .before .before in

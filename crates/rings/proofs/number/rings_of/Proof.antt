@@ -50,16 +50,27 @@ eight k =
     let h = known (f .before) in
     ap₂ (λ x y. (x, y)) (f .four-at .ensures) (k .four-at2 .ensures) ∙ sym (h .whole)
 
+-- the call, seen from where both fours are found
+abbrev begun : tie.After-four-at2 → tie.Start
+begun k = k .before .before .before .before
+
 -- and below M
 small :
     (k : tie.After-four-at2)
     → let f = k .before .before in
     Below8 18 (fourOf (f .four-at .result), fourOf (k .four-at2 .result))
 small k =
-    let s = k .before .before .before .before in
+    let s = begun k in
     let b = subst (Below8 (s .args .m)) (sym (eight k)) (rings-below _ _ (s .pre .1)) in
     let high = s .pre .0 .eights .known .high in
     omega arith
+
+-- both fours, seen from where the fourth ring is put down, and from where the last is
+abbrev fourth : tie.After-struct-known5 → tie.After-four-at2
+fourth c = c .before .before .before .before
+
+abbrev last : tie.After-struct-known9 → tie.After-four-at2
+last c = fourth (c .before .before .before .before)
 
 cast-t10 : tie.Need-cast-t10
 cast-t10 c = omega (arith, small (c .before) .0 .0 .0)
@@ -71,22 +82,22 @@ cast-t12 : tie.Need-cast-t12
 cast-t12 c = omega (arith, small (c .before .before .before) .0 .1 .0)
 
 cast-t13 : tie.Need-cast-t13
-cast-t13 c = omega (arith, small (c .before .before .before .before) .0 .1 .1)
+cast-t13 c = omega (arith, small (fourth c) .0 .1 .1)
 
 cast-t14 : tie.Need-cast-t14
-cast-t14 c = omega (arith, small (c .before .before .before .before .before) .1 .0 .0)
+cast-t14 c = omega (arith, small (fourth (c .before)) .1 .0 .0)
 
 cast-t15 : tie.Need-cast-t15
-cast-t15 c = omega (arith, small (c .before .before .before .before .before .before) .1 .0 .1)
+cast-t15 c = omega (arith, small (fourth (c .before .before)) .1 .0 .1)
 
 cast-t16 : tie.Need-cast-t16
-cast-t16 c = omega (arith, small (c .before .before .before .before .before .before .before) .1 .1 .0)
+cast-t16 c = omega (arith, small (fourth (c .before .before .before)) .1 .1 .0)
 
 cast-t17 : tie.Need-cast-t17
-cast-t17 c = omega (arith, small (c .before .before .before .before .before .before .before .before) .1 .1 .1)
+cast-t17 c = omega (arith, small (last c) .1 .1 .1)
 
 returns : tie.Need-returns
-returns c = ap asList (eight (c .before .before .before .before .before .before .before .before))
+returns c = ap asList (eight (last c))
 
 pub rings-of-spec : {M : Type 1} → statement M
 rings-of-spec =

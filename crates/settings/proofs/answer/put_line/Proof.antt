@@ -10,22 +10,27 @@ use Rattle.settings.proofs.Fitting.{ended-length}
 use Rattle.settings.proofs.answer.put_line.Statement.{statement}
 use Rattle.settings.proofs.answer.put_line.Tie as tie
 
+-- what was given, from the answer worked out
+abbrev start : tie.After-worked-of → tie.Start
+start k = let slices = k .before in slices .before .before .before
+
 worked-of-requires : tie.Need-worked-of-requires
 worked-of-requires c κs = search needs
 
 put-text-requires : tie.Need-put-text-requires
 unfolding lineOf
 put-text-requires c κs =
-    let start = c .before .before .before .before in
-    rw (c .worked-of .ensures) (omega (arith, start .pre, ended-length (textOf (answerOf (start .args .input .now)))))
+    let s = start c in
+    rw (c .worked-of .ensures) (omega (arith, s .pre, ended-length (textOf (answerOf (s .args .input .now)))))
 
 put-byte-requires : tie.Need-put-byte-requires
 unfolding lineOf
 put-byte-requires c κs =
     let k = c .before .before .before in
-    let start = k .before .before .before .before .before in
+    let s = start (k .before) in
     let same = ap (λ (w : Worked). length (textOf w)) (k .before .worked-of .ensures) in
-    omega (arith, start .pre, ended-length (textOf (answerOf (start .args .input .now))), same, k .put-text .ensures .place, k .put-text .kept .0)
+    let text = textOf (answerOf (s .args .input .now)) in
+    omega (arith, s .pre, ended-length text, same, k .put-text .ensures .place, k .put-text .kept .0)
 
 same-length : tie.Need-same-length
 same-length c = search needs
@@ -33,9 +38,9 @@ same-length c = search needs
 returns : tie.Need-returns
 unfolding lineOf ended
 returns c =
-    let k = c .before .before .before .before .before .before in
-    rw (← k .before .worked-of .ensures)
-    (put-more (omega arith) (k .put-text .ensures) (c .before .before .put-byte .ensures))
+    let b = c .before .before in
+    let k = let turn = b .before in turn .before .before .before in
+    rw (← k .before .worked-of .ensures) (put-more (omega arith) (k .put-text .ensures) (b .put-byte .ensures))
 
 pub put-line-spec : {M : Type 1} → statement M
 put-line-spec =

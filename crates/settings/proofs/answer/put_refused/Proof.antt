@@ -10,14 +10,18 @@ use Rattle.settings.proofs.answer.put_refused.Tie as tie
 slice-aggregate-put-bytes : tie.Need-slice-aggregate-put-bytes
 slice-aggregate-put-bytes c = search needs
 
+-- what was given, before the word is put
+abbrev start : tie.After-put-bytes-arg2 → tie.Start
+start k = k .before .before .before
+
 put-bytes-requires : tie.Need-put-bytes-requires
-put-bytes-requires c κs = let k = c .before .before .before in omega (arith, k .pre, refused-length (k .args .number))
+put-bytes-requires c κs = omega (arith, start c .pre, refused-length (start c .args .number))
 
 put-spaced-requires : tie.Need-put-spaced-requires
 put-spaced-requires c κs =
     let k = c .before .before .before in
-    let start = k .before .before .before .before in
-    omega (arith, start .pre, refused-length (start .args .number), k .put-bytes .ensures .place, k .put-bytes .kept .0)
+    let s = start (k .before) in
+    omega (arith, s .pre, refused-length (s .args .number), k .put-bytes .ensures .place, k .put-bytes .kept .0)
 
 same-length : tie.Need-same-length
 same-length c = search needs
@@ -25,8 +29,9 @@ same-length c = search needs
 returns : tie.Need-returns
 unfolding textOf
 returns c =
-    let k = c .before .before .before .before .before .before in
-    put-more (omega arith) (k .put-bytes .ensures) (c .before .before .put-spaced .ensures)
+    let n = c .before .before in
+    let k = let turn = n .before in turn .before .before .before in
+    put-more (omega arith) (k .put-bytes .ensures) (n .put-spaced .ensures)
 
 pub put-refused-spec : {M : Type 1} → statement M
 put-refused-spec =

@@ -19,13 +19,13 @@ same-length : tie.Need-same-length
 same-length c = search needs
 
 returns : tie.Need-returns
-returns c = rw (c .before .before .before .before .before .worked .given .1) (c .before .before .put-values .ensures)
+returns c = let v = c .before .before in rw (v .before .before .before .worked .given .1) (v .put-values .ensures)
 
 same-length-2 : tie.Need-same-length-2
 same-length-2 c = search needs
 
 returns-2 : tie.Need-returns-2
-returns-2 c = rw (c .before .before .before .before .before .worked2 .given .1) (c .before .before .put-refused .ensures)
+returns-2 c = let r = c .before .before in rw (r .before .before .before .worked2 .given .1) (r .put-refused .ensures)
 
 pub put-text-spec : {M : Type 1} → statement M
 put-text-spec =

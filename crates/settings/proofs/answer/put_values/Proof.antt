@@ -23,8 +23,8 @@ same-length c = search needs
 returns : tie.Need-returns
 unfolding textOf
 returns c =
-    let k = c .before .before .before .before .before in
-    rw (k .values-of .ensures) at (c .before .before .put-joined .ensures)
+    let j = c .before .before in
+    rw (j .before .before .before .values-of .ensures) at (j .put-joined .ensures)
 
 pub put-values-spec : {M : Type 1} → statement M
 put-values-spec =

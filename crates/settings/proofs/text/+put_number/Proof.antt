@@ -68,8 +68,9 @@ put-number-returns : (t : ℕ) → put-number-lts.Need-returns (
   put-number.Post,
 ) (put-number-at t) put-number.Post
 put-number-returns t c =
-    let k = c .before .before .before .before in
-    rw (decimal-digit (k .before .before .args .n) (lt-ltb _ _ (k .if1 .taken))) (c .before .before .put-byte .ensures)
+    let b = c .before .before in
+    let k = b .before .before in
+    rw (decimal-digit (k .before .before .args .n) (lt-ltb _ _ (k .if1 .taken))) (b .put-byte .ensures)
 
 put-number-put-number-requires : (t : ℕ) → put-number-lts.Need-put-number-requires (
   put-byte-reads.Asked,
@@ -106,8 +107,9 @@ put-number-put-byte-requires-2 : (t : ℕ) → put-number-lts.Need-put-byte-requ
 ) (put-number-at t) put-number.Post
 put-number-put-byte-requires-2 t c κs =
     let k = c .before .before .before in
-    let start = k .before .before .before .before in
-    let more = one-digit-more (start .args .n) (le-ltb _ _ (k .before .before .if1 .left)) in
+    let e = k .before .before in
+    let start = e .before .before in
+    let more = one-digit-more (start .args .n) (le-ltb _ _ (e .if1 .left)) in
     omega (arith, start .pre .1, k .put-number .ensures .place, k .put-number .kept .0)
 
 put-number-same-length-2 : (t : ℕ) → put-number-lts.Need-same-length-2 (
@@ -116,7 +118,10 @@ put-number-same-length-2 : (t : ℕ) → put-number-lts.Need-same-length-2 (
   put-number-below t,
   put-number.Post,
 ) (put-number-at t) put-number.Post
-put-number-same-length-2 t c = c .before .before .put-byte2 .kept .0 ∙ c .before .before .before .before .before .before .put-number .kept .0
+put-number-same-length-2 t c =
+    let b = c .before .before in
+    let lent = b .before in
+    b .put-byte2 .kept .0 ∙ lent .before .before .before .put-number .kept .0
 
 put-number-returns-2 : (t : ℕ) → put-number-lts.Need-returns-2 (
   put-byte-reads.Asked,
@@ -125,10 +130,13 @@ put-number-returns-2 : (t : ℕ) → put-number-lts.Need-returns-2 (
   put-number.Post,
 ) (put-number-at t) put-number.Post
 put-number-returns-2 t c =
-    let k = c .before .before .before .before .before .before in
-    let start = k .before .before .before .before in
-    rw (decimal-step (start .args .n) (le-ltb _ _ (k .before .before .if1 .left)))
-    (put-more (omega (arith, start .pre .1)) (k .put-number .ensures) (c .before .before .put-byte2 .ensures))
+    let b = c .before .before in
+    let lent = b .before in
+    let k = lent .before .before .before in
+    let e = k .before .before in
+    let start = e .before .before in
+    rw (decimal-step (start .args .n) (le-ltb _ _ (e .if1 .left)))
+    (put-more (omega (arith, start .pre .1)) (k .put-number .ensures) (b .put-byte2 .ensures))
 
 pub +put-number-spec : {M : Type 1} → statement M
 +put-number-spec = close μ-put-number λ t. put-number-lts.spec (

@@ -44,12 +44,13 @@ loop-less c = search needs
 
 loop-again : tie.Need-loop-again Inv-loop μ-loop
 loop-again c =
-    let k = c .before .before .before .before .before .before in
+    let p = c .before .before in
+    let k = let lent = p .before in lent .before .before .before in
     let numbers = k .before .before .before .args .numbers .now in
     let here : k .loop .i < length numbers = search needs in (
-      rw (add-one, spaced-more numbers (k .loop .i)) (put-more (omega arith) (k .loop .inv .0) (c .before .before .put-spaced .ensures)),
+      rw (add-one, spaced-more numbers (k .loop .i)) (put-more (omega arith) (k .loop .inv .0) (p .put-spaced .ensures)),
       omega arith,
-      c .before .before .put-spaced .kept .0 ∙ k .loop .inv .2,
+      p .put-spaced .kept .0 ∙ k .loop .inv .2,
     )
 
 same-length : tie.Need-same-length Inv-loop μ-loop

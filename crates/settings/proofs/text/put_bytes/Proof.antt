@@ -37,10 +37,14 @@ loop-less c = search needs
 
 loop-again : tie.Need-loop-again Inv-loop μ-loop
 loop-again c =
-    let k = c .before .before .before .before .before .before in
+    let p = c .before .before in
+    let k = let lent = p .before in lent .before .before .before in
     let bytes = k .before .before .before .args .bytes .now in
-    let here : k .loop .i < length bytes = search needs in
-    (rw (add-one, take-suc bytes (k .loop .i) 0) (put-more (omega arith) (k .loop .inv .0) (c .before .before .put-byte .ensures)), omega arith, c .before .before .put-byte .kept .0 ∙ k .loop .inv .2)
+    let here : k .loop .i < length bytes = search needs in (
+      rw (add-one, take-suc bytes (k .loop .i) 0) (put-more (omega arith) (k .loop .inv .0) (p .put-byte .ensures)),
+      omega arith,
+      p .put-byte .kept .0 ∙ k .loop .inv .2,
+    )
 
 same-length : tie.Need-same-length Inv-loop μ-loop
 same-length c = c .before .loop .inv .2

@@ -11,7 +11,8 @@ shared-slice-read-put-number c = search needs
 
 put-number-requires : tie.Need-put-number-requires
 put-number-requires c κs =
-    let start = c .before .before .before .before in
+    let read = c .before in
+    let start = read .before .before .before in
     omega (arith, start .pre .1, joined-length (start .args .numbers .now) (start .pre .0))
 
 sub-put-all : tie.Need-sub-put-all
@@ -25,19 +26,25 @@ part-put-all-end c = search needs
 
 put-all-requires : tie.Need-put-all-requires
 put-all-requires c κs =
-    let k = c .before .before .before .before in
-    let start = k .before .before .before .before .before in
-    omega (arith, start .pre .1, joined-length (start .args .numbers .now) (start .pre .0), k .put-number .ensures .place, k .put-number .kept .0)
+    let part = c .before in
+    let k = part .before .before .before in
+    let read = k .before .before in
+    let start = read .before .before .before in
+    let whole = joined-length (start .args .numbers .now) (start .pre .0) in
+    omega (arith, start .pre .1, whole, k .put-number .ensures .place, k .put-number .kept .0)
 
 same-length : tie.Need-same-length
 same-length c = search needs
 
 returns : tie.Need-returns
 returns c =
-    let k = c .before .before .before .before .before .before .before in
-    let start = k .before .before .before .before .before in
+    let rest = c .before .before in
+    let part = rest .before .before in
+    let k = part .before .before .before in
+    let read = k .before .before in
+    let start = read .before .before .before in
     rw (joined-first (start .args .numbers .now) (start .pre .0))
-    (put-more (omega arith) (k .put-number .ensures) (c .before .before .put-all .ensures))
+    (put-more (omega arith) (k .put-number .ensures) (rest .put-all .ensures))
 
 pub put-joined-spec : {M : Type 1} → statement M
 put-joined-spec =

@@ -22,10 +22,10 @@ same-length c = search needs
 
 returns : tie.Need-returns
 returns c =
-    let k = c .before .before .before .before .before .before in
+    let p = c .before .before in
+    let k = let lent = p .before in lent .before .before .before in
     let start = k .before .before .before in
-    rw (spaced-one (start .args .n))
-    (put-more (omega (arith, start .pre)) (k .put-byte .ensures) (c .before .before .put-number .ensures))
+    rw (spaced-one (start .args .n)) (put-more (omega (arith, start .pre)) (k .put-byte .ensures) (p .put-number .ensures))
 
 pub put-spaced-spec : {M : Type 1} → statement M
 put-spaced-spec = tie.close (tie.spec put-byte-requires put-number-requires same-length returns)

@@ -1,23 +1,27 @@
 -- `workerwax::data::ww_read` meets its contract: the coder refuses, or what it read is in the lent bits. Assumes nothing.
 use mathlib.Core.List.{List, _++_}
 use mathlib.Core.Path.{_≡_, sym, ap, subst, _∙_}
-use Prim.Native.Nat.{ℕ, _*_, _≤_}
+use Prim.Native.Nat.{ℕ, _*_, _^_, _≤_, _<_}
 use native.Mathlib.Omega.{arith}
 use borrow.Author.Needs.{needs}
 use lib.ListN.{length, take, drop, length-append}
 use lib.Seq.{length-take-le, take-at}
 use Rattle.coder.specs.declared.states.State.{State}
 use Rattle.coder.specs.declared.states.Coded.{Coded}
+use Rattle.line.specs.Asked.{asked}
 use Rattle.coder.specs.State.{stateOf}
 use Rattle.coder.specs.Answers.{readOf, bitsAfter}
 use Rattle.workerwax.specs.Calls.{codedNumbers}
 use Rattle.workerwax.specs.Layout.{words, labelsIn}
 use Rattle.workerwax.specs.Lending.{lentLabels}
 use Rattle.workerwax.proofs.Lends.{lent-most, lent-within}
-use Rattle.workerwax.proofs.Refusals.{read-most}
-use Rattle.workerwax.proofs.Frames.{read-refused, read-lent, read-done}
+use Rattle.workerwax.proofs.Refusals.{read-narrow}
+use Rattle.workerwax.proofs.Coding.{read-refused, read-lent, read-done}
 use Rattle.workerwax.proofs.data.ww_read.Statement.{statement}
 use Rattle.workerwax.proofs.data.ww_read.Tie as tie
+
+asked-of-requires : tie.Need-asked-of-requires
+asked-of-requires c κs = search needs
 
 lent-labels-requires : tie.Need-lent-labels-requires
 lent-labels-requires c κs = search needs
@@ -26,8 +30,11 @@ blank-requires : tie.Need-blank-requires
 blank-requires c κs = search needs
 
 -- what was given, and how many labels are lent
+abbrev asks : tie.After-blank → tie.After-asked-of
+asks k = k .before .before
+
 abbrev start : tie.After-blank → tie.Start
-start k = k .before .before .before .before .before
+start k = let slices = asks k .before in slices .before .before .before
 
 abbrev lent : tie.After-blank → ℕ
 lent k = k .before .lent-labels .result
@@ -102,30 +109,37 @@ read-requires c κs = search needs
 
 -- the state that was given
 abbrev state : tie.After-blank → State
-state k = let a = start k .args in stateOf (a .role) (a .s) (a .n) (a .shaping) (a .mark) (a .register) (a .z)
+state k = let a = start k .args in stateOf (asked (a .role) (a .s) (a .n) (a .shaping) (a .mark)) (a .register) (a .z)
 
 -- what the coder answered, and the bits that it read
 abbrev labels : tie.After-read → tie.After-take-labels
-labels r = r .before .before .before .before
+labels r = let slices = r .before in slices .before .before .before
 
 coded :
     (r : tie.After-read)
     → let k = labels r in
     r .read .result ≡ readOf (state (blank k)) (given k) (length (start (blank k) .args .bits .now))
-coded r = r .read .ensures .answer
+coded r = rw (asks (blank (labels r)) .asked-of .ensures) at (r .read .ensures .answer)
 
 bits-are :
     (r : tie.After-read)
     → let k = labels r in
     r .read .last .1 .1 .0 ≡ bitsAfter (state (blank k)) (given k) (start (blank k) .args .bits .now)
-bits-are r = r .read .ensures .buffer
+bits-are r = rw (asks (blank (labels r)) .asked-of .ensures) at (r .read .ensures .buffer)
+
+-- the call is refused, or it is not
+abbrev denied : tie.Then1 → tie.After-read
+denied t = let slices = t .before in slices .before .before .before
+
+abbrev read : tie.Else1 → tie.After-read
+read e = let slices = e .before in slices .before .before .before
 
 narrow-requires : tie.Need-narrow-requires
 narrow-requires c κs =
-    let r = c .before .before .before .before in
+    let r = denied c in
     let k = labels r in
-    let most = read-most (state (blank k)) (given k) (length (start (blank k) .args .bits .now)) in
-    subst (λ (x : Coded). x .refusal ≤ 14) (sym (coded r)) most
+    let most = read-narrow (state (blank k)) (given k) (length (start (blank k) .args .bits .now)) in
+    subst (λ (x : Coded). x .refusal < 2 ^ 32) (sym (coded r)) most
 
 same-length : tie.Need-same-length
 same-length c = search needs
@@ -133,7 +147,7 @@ same-length c = search needs
 returns : tie.Need-returns
 returns c =
     let t = c .before in
-    let r = t .before .before .before .before in
+    let r = denied t in
     let k = labels r in
     let a = start (blank k) .args in
     rw (c .narrow .ensures)
@@ -145,10 +159,6 @@ numbers-of-requires c κs = search needs
 
 slice-aggregate-put-words : tie.Need-slice-aggregate-put-words
 slice-aggregate-put-words c = search needs
-
--- the call is not refused
-abbrev read : tie.Else1 → tie.After-read
-read e = e .before .before .before .before
 
 done :
     (e : tie.Else1)
@@ -186,6 +196,7 @@ pub ww-read-spec : {M : Type 1} → statement M
 ww-read-spec =
     tie.close
     (tie.spec
+    asked-of-requires
     lent-labels-requires
     blank-requires
     mul-take-labels

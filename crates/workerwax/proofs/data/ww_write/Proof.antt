@@ -1,23 +1,27 @@
 -- `workerwax::data::ww_write` meets its contract: the coder refuses, or what it wrote is laid out. Assumes nothing.
 use mathlib.Core.List.{List, _++_}
 use mathlib.Core.Path.{_≡_, sym, ap, subst, _∙_}
-use Prim.Native.Nat.{ℕ, _≤_}
+use Prim.Native.Nat.{ℕ, _^_, _≤_, _<_}
 use native.Mathlib.Omega.{arith}
 use borrow.Author.Needs.{needs}
 use lib.ListN.{length, take, drop, length-append}
 use lib.Seq.{length-take-le, take-at}
 use Rattle.coder.specs.declared.states.State.{State}
 use Rattle.coder.specs.declared.states.Coded.{Coded}
+use Rattle.line.specs.Asked.{asked}
 use Rattle.coder.specs.State.{stateOf}
 use Rattle.coder.specs.Answers.{writtenOf, labelsAfter}
 use Rattle.workerwax.specs.Calls.{codedNumbers}
 use Rattle.workerwax.specs.Layout.{words, labelBytes}
 use Rattle.workerwax.specs.Lending.{lentLabels}
-use Rattle.workerwax.proofs.Lends.{Lent, lent-most}
-use Rattle.workerwax.proofs.Refusals.{write-most}
-use Rattle.workerwax.proofs.Frames.{write-refused, write-lent, write-done}
+use Rattle.workerwax.proofs.Lends.{LentBytes, lent-most}
+use Rattle.workerwax.proofs.Refusals.{write-narrow}
+use Rattle.workerwax.proofs.Coding.{write-refused, write-lent, write-done}
 use Rattle.workerwax.proofs.data.ww_write.Statement.{statement}
 use Rattle.workerwax.proofs.data.ww_write.Tie as tie
+
+asked-of-requires : tie.Need-asked-of-requires
+asked-of-requires c κs = search needs
 
 lent-labels-requires : tie.Need-lent-labels-requires
 lent-labels-requires c κs = search needs
@@ -26,8 +30,11 @@ blank-requires : tie.Need-blank-requires
 blank-requires c κs = search needs
 
 -- what was given
+abbrev asks : tie.After-blank → tie.After-asked-of
+asks k = k .before .before
+
 abbrev start : tie.After-blank → tie.Start
-start k = k .before .before .before .before .before
+start k = let slices = asks k .before in slices .before .before .before
 
 -- the part that the coder is lent
 abbrev part : tie.After-blank → List ℕ
@@ -55,20 +62,20 @@ write-requires c κs = search needs
 
 -- the state that was given
 abbrev state : tie.After-blank → State
-state k = let a = start k .args in stateOf (a .role) (a .s) (a .n) (a .shaping) (a .mark) (a .register) (a .z)
+state k = let a = start k .args in stateOf (asked (a .role) (a .s) (a .n) (a .shaping) (a .mark)) (a .register) (a .z)
 
 -- what the coder answered, and the labels that it wrote
 coded :
     (k : tie.After-write)
     → let b = k .before .before in
     k .write .result ≡ writtenOf (state b) (start b .args .bits .now) (length (part b))
-coded k = k .write .ensures .answer
+coded k = rw (asks (k .before .before) .asked-of .ensures) at (k .write .ensures .answer)
 
 abbrev labels : tie.After-write → List ℕ
 labels k = k .write .last .1 .1 .0
 
 labels-are : (k : tie.After-write) → let b = k .before .before in labels k ≡ labelsAfter (state b) (start b .args .bits .now) (part b)
-labels-are k = k .write .ensures .buffer
+labels-are k = rw (asks (k .before .before) .asked-of .ensures) at (k .write .ensures .buffer)
 
 labels-long : (k : tie.After-write) → length (labels k) ≡ length (part (k .before .before))
 labels-long k = k .write .kept .1 .1 .0
@@ -91,7 +98,7 @@ lengths :
     (e : tie.Else1)
     → let b = written e .before .before in
     let a = start b .args in
-    Lent (length (a .labels .now)) (length (a .answer .now)) (length (part b))
+    LentBytes (length (a .labels .now)) (length (a .answer .now)) (length (part b))
 lengths e =
     let b = written e .before .before in
     let a = start b .args in
@@ -101,7 +108,7 @@ narrow-requires : tie.Need-narrow-requires
 narrow-requires c κs =
     let k = c .before .before .before in
     let b = k .before .before in
-    subst (λ (r : Coded). r .refusal ≤ 14) (sym (coded k)) (write-most (state b) (start b .args .bits .now) (length (part b)))
+    subst (λ (r : Coded). r .refusal < 2 ^ 32) (sym (coded k)) (write-narrow (state b) (start b .args .bits .now) (length (part b)))
 
 returns : tie.Need-returns
 returns c =
@@ -130,6 +137,13 @@ put-labels-requires c κs =
     let k = written e in
     omega (arith, lengths e .half, labels-long k, ap length (again k))
 
+-- the labels are laid out, and then the numbers are put together
+abbrev laid : tie.After-numbers-of → tie.After-put-labels
+laid n = let slices = n .before in slices .before .before .before
+
+abbrev unrefused : tie.After-put-labels → tie.Else1
+unrefused p = p .before .before .before
+
 numbers-of-requires : tie.Need-numbers-of-requires
 numbers-of-requires c κs = search needs
 
@@ -139,7 +153,7 @@ slice-aggregate-put-words c = search needs
 put-words-requires : tie.Need-put-words-requires
 put-words-requires c κs =
     let n = c .before in
-    let e = n .before .before .before .before .before .before .before in
+    let e = unrefused (laid n) in
     omega (arith, lengths e .answered, ap length (n .numbers-of .ensures))
 
 same-length : tie.Need-same-length
@@ -152,8 +166,8 @@ returns-2 : tie.Need-returns-2
 returns-2 c =
     let w = c .before .before in
     let n = w .before .before in
-    let p = n .before .before .before .before in
-    let e = p .before .before .before in
+    let p = laid n in
+    let e = unrefused p in
     let k = written e in
     let b = k .before .before in
     let a = start b .args in
@@ -165,6 +179,7 @@ pub ww-write-spec : {M : Type 1} → statement M
 ww-write-spec =
     tie.close
     (tie.spec
+    asked-of-requires
     lent-labels-requires
     blank-requires
     array-borrow-prefix-space

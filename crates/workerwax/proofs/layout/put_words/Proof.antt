@@ -53,12 +53,14 @@ loop-less c = search needs
 
 loop-again : tie.Need-loop-again Inv-loop μ-loop
 loop-again c =
-    let k = c .before .before .before .before .before .before in
+    let put = c .before .before in
+    let read = put .before in
+    let k = read .before .before .before in
     let numbers = k .before .before .before .args .numbers .now in
     let here : k .loop .i < length numbers = search needs in (
-      rw (words-more numbers (k .loop .i) here) (put-more (omega arith) (k .loop .inv .0) (c .before .before .put-word .ensures)),
+      rw (words-more numbers (k .loop .i) here) (put-more (omega arith) (k .loop .inv .0) (put .put-word .ensures)),
       omega arith,
-      c .before .before .put-word .kept .0 ∙ k .loop .inv .2,
+      put .put-word .kept .0 ∙ k .loop .inv .2,
     )
 
 same-length : tie.Need-same-length Inv-loop μ-loop

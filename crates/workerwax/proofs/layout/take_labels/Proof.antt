@@ -72,8 +72,9 @@ loop-less c = let k = c .before .before in omega (arith, k .loop-test .taken, k 
 
 loop-again : tie.Need-loop-again Inv-loop μ-loop
 loop-again c =
-    let l = c .before .before .before .loop in
-    let bytes = c .before .before .before .before .args .bytes .now in
+    let turn = c .before .before .before in
+    let l = turn .loop in
+    let bytes = turn .before .args .bytes .now in
     (taken-more bytes (l .labels) (l .i) (l .inv .0) (more (c .before .before)), length-set (l .labels) (l .i) _ ∙ l .inv .1)
 
 same-length : tie.Need-same-length Inv-loop μ-loop

@@ -5,10 +5,10 @@ use native.Mathlib.Omega.{arith}
 use borrow.Author.Needs.{needs}
 use lib.ListN.{length}
 use lib.Seq.{length-take-le}
-use Rattle.rings.specs.Answers.{rankedOf}
+use Rattle.rings.specs.Mapping.{rankedOf}
 use Rattle.rings.specs.declared.entry.Ranked.{Ranked}
-use Rattle.workerwax.specs.Layout.{word}
-use Rattle.workerwax.proofs.Refusals.{rank-most}
+use Rattle.workerwax.specs.Layout.{word, rankBytes}
+use Rattle.workerwax.proofs.Refusals.{rank-narrow}
 use Rattle.workerwax.proofs.Layouts.{word-whole}
 use Rattle.workerwax.proofs.Lends.{shown-within}
 use Rattle.workerwax.proofs.Ways.{shown, rank-refused, rank-four, rank-done}
@@ -20,7 +20,7 @@ shown-rings-requires c κs = search needs
 
 -- what was given
 abbrev start : tie.After-rank-arg → tie.Start
-start k = k .before .before .before .before
+start k = let shown = k .before in shown .before .before .before
 
 slice-aggregate-rank : tie.Need-slice-aggregate-rank
 slice-aggregate-rank c =
@@ -49,7 +49,7 @@ narrow-requires : tie.Need-narrow-requires
 narrow-requires c κs =
     let k = c .before .before in
     let a = start (k .before) .args in
-    omega (arith, number-is k, rank-most (a .k) (a .m) (shown (a .k) (a .m) (a .rings .now) (a .answer .now)))
+    omega (arith, number-is k, rank-narrow (a .k) (a .m) (shown (a .k) (a .m) (a .rings .now) (a .answer .now)))
 
 returns : tie.Need-returns
 returns c =
@@ -58,8 +58,8 @@ returns c =
     let a = start (k .before) .args in
     rw (c .narrow .ensures) (rank-refused (a .k) (a .m) (a .rings .now) (a .answer .now) _ (number-is k) (t .if1 .taken))
 
--- the call is not refused, so that the answer has four bytes
-four : (e : tie.Else1) → length (start (e .before .before .before) .args .answer .now) ≡ 4
+-- the call is not refused, so that the answer has its bytes
+four : (e : tie.Else1) → length (start (e .before .before .before) .args .answer .now) ≡ rankBytes
 four e =
     let k = e .before .before in
     let a = start (k .before) .args in

@@ -1,10 +1,10 @@
 -- `workerwax::starting::ww_short_start` meets its contract: the short start, and its state as bytes. Assumes nothing.
 use mathlib.Core.Path.{_≡_, sym, subst}
-use Prim.Native.Nat.{_≤_}
+use Prim.Native.Nat.{_^_, _<_}
 use borrow.Author.Needs.{needs}
 use Rattle.coder.specs.State.{shortStartedOf}
 use Rattle.coder.specs.declared.states.Started.{Started}
-use Rattle.workerwax.proofs.Refusals.{short-start-most}
+use Rattle.workerwax.proofs.Refusals.{short-start-narrow}
 use Rattle.workerwax.proofs.starting.ww_short_start.Statement.{statement}
 use Rattle.workerwax.proofs.starting.ww_short_start.Tie as tie
 
@@ -22,7 +22,7 @@ answer-start-requires : tie.Need-answer-start-requires
 answer-start-requires c κs =
     let k = c .before in
     let a = k .before .before .args in
-    subst (λ (r : Started). r .refusal ≤ 14) (sym (begun k)) (short-start-most (a .role) (a .s) (a .n) (a .mark))
+    subst (λ (r : Started). r .refusal < 2 ^ 32) (sym (begun k)) (short-start-narrow (a .role) (a .s) (a .n) (a .mark))
 
 same-length : tie.Need-same-length
 same-length c = search needs

@@ -1,0 +1,3 @@
+-- What the proofs of several functions share.
+--     Sends         what the loop of `send` holds
+pub mod Sends
