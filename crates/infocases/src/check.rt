@@ -1,0 +1,56 @@
+// The check of parts of the nine bytes "123456789", of which 29B1 is known for the whole.
+use crate::show::say;
+use crate::show::say_check;
+use crate::show::text;
+use bits::all_bits;
+use fields::check::crc_of;
+
+// Bit i of nine bytes, the highest of each byte first.
+fn bit_of(bytes: &[u8; 9], i: usize) -> u8 {
+    let k = i / 8 % 9;
+    (bytes[k] >> (7 - i % 8)) % 2
+}
+
+fn bits_of(bytes: &[u8; 9]) -> [u8; 72] {
+    let mut bits = [0u8; 72];
+    let mut i = 0;
+    while i < 72 {
+        bits[i] = bit_of(bytes, i);
+        i += 1;
+    }
+    bits
+}
+
+// The check of the bits from `from` to before `to`, after a test of what `crc_of` asks; 65536, which is no check, where the test fails.
+pub fn tested_crc(bits: &[u8], from: usize, to: usize) -> u64 {
+    if from > to {
+        return 65536;
+    }
+    if to > bits.len() {
+        return 65536;
+    }
+    if !all_bits(bits) {
+        return 65536;
+    }
+    crc_of(bits, from, to)
+}
+
+fn part(bits: &[u8; 72], from: usize, to: usize) {
+    say(b"bits ", from as u64);
+    say(b" to ", to as u64);
+    say_check(b": ", tested_crc(bits, from, to));
+    text(b"\n");
+}
+
+pub fn cases() {
+    text(
+        b"check of the bits of \"123456789\", highest first; of all 72 it is 29B1, which is 10673\n",
+    );
+    let bits = bits_of(b"123456789");
+    part(&bits, 0, 72);
+    part(&bits, 8, 16);
+    part(&bits, 0, 1);
+    part(&bits, 2, 3);
+    part(&bits, 0, 0);
+    part(&bits, 72, 72);
+}
