@@ -19,7 +19,7 @@ run: setup
 	@printf '\nsettings program, role 0, s 5, n 14, shaping 1, mark 1 and then mark 2\n'
 	@printf '\000\005\016\001\001' | tools/run-program target/bin/settings
 	@printf '\000\005\016\001\002' | tools/run-program target/bin/settings
-	@printf '\nhost/example.c sends host/shunt-plan.txt\n'
+	@printf '\nhost/example.c sends host/shunt-plan.txt by four INFO0 sequences that were received\n'
 	@tools/run-program target/host/example <host/shunt-plan.txt
 
 test: setup

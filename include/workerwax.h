@@ -7,6 +7,9 @@
  * framing (clause 8), parser, shell mapper and differential coder (clauses 9.3 to 9.5). The reader is the exact
  * inverse. Trellis coder, precoder, non-linear coder, auxiliary channel and start-up signalling are the caller's.
  *
+ * So that the mark comes from the line and not from a binder, the far end's INFO0 sequence is read, and ours is written
+ * (clause 10.1.2.3, Table 14). The caller sends and receives its bits.
+ *
  * How does it work?
  *
  * Each call takes numbers and lent byte slices. The library keeps nothing between two calls and allocates nothing, so
@@ -28,7 +31,9 @@
  * was, the answer too.
  *
  * Answers. What else there is to say goes into the lent answer: numbers of 32 bits, four bytes each, low byte first, in
- * the order given at the call. ww_number takes one out. Its places are the WW_PARAMETERS_.., WW_STATE_.. below.
+ * the order given at the call. ww_number takes one out. Its places are the WW_PARAMETERS_.., WW_STATE_.., WW_INFO0_..
+ * below. Fields that are handed in have the layout in which they are answered, so what was read can be written as it is;
+ * ww_put_number puts one number there.
  */
 #ifndef WORKERWAX_H
 #define WORKERWAX_H
@@ -41,8 +46,8 @@ extern "C" {
 #endif
 
 #define WW_VERSION_MAJOR 0
-#define WW_VERSION_MINOR 1
-#define WW_VERSION_STRING "0.1"
+#define WW_VERSION_MINOR 2
+#define WW_VERSION_STRING "0.2"
 
 /* A refusal that nobody looks at is taken for success. */
 #if defined(__GNUC__) || defined(__clang__)
@@ -61,12 +66,15 @@ extern "C" {
 #define WW_NO_LARGE 6u        /* n is 13 or 14 and mark is 0: the far end has no large constellation (note to Table 15) */
 #define WW_BAD_STATE 7u       /* the register is 2^23 or more, or Z is above 3 */
 #define WW_BAD_LENGTH 8u      /* the length of a slice is not the exact one */
-#define WW_BAD_BIT 9u         /* writer: a data byte is above 1 */
+#define WW_BAD_BIT 9u         /* a byte that is to be sent, or was received, as a bit is above 1 */
 #define WW_BAD_LABEL 10u      /* a ring not below M, a 2D label not below M*2^q, Z above 3, I1 above 1 */
 #define WW_BAD_SET 11u        /* rings whose number is 2^K or more, or 2^(K-1) or more in a low frame with b above 12 */
 #define WW_BAD_STEP 12u       /* reader: the Z steps give I3 = 1 where the frame carries none (clause 9.3.2) */
 #define WW_BAD_COUNTS 13u     /* K is above 31, M is not 1 to 18, or 2^K is above M^8 */
 #define WW_BAD_NUMBER 14u     /* the number to be mapped is not below 2^K */
+#define WW_BAD_SYNC 16u       /* a bit of fill or sync is not the one that always stands there */
+#define WW_BAD_CRC 17u        /* the CRC is not that of the fields: the sequence was damaged on its way */
+#define WW_BAD_FIELD 18u      /* a field is out of its range, or is more than its bits can hold */
 
 /* Every refusal, in the one order in which each call tests for its own. X is a macro that takes the name of one. */
 #define WW_REFUSALS_IN_ORDER(X) \
@@ -83,7 +91,10 @@ extern "C" {
     X(WW_BAD_LABEL) \
     X(WW_BAD_SET) \
     X(WW_BAD_STEP) \
-    X(WW_BAD_NUMBER)
+    X(WW_BAD_NUMBER) \
+    X(WW_BAD_SYNC) \
+    X(WW_BAD_CRC) \
+    X(WW_BAD_FIELD)
 
 /* Exact lengths in bytes. Each has a getter beside it, for languages that cannot read a macro. */
 #define WW_PARAMETERS_BYTES 32 /* answer of ww_parameters */
@@ -93,6 +104,8 @@ extern "C" {
 #define WW_WRITE_BYTES 32      /* answer of ww_write */
 #define WW_READ_BYTES 32       /* answer of ww_read */
 #define WW_LABEL_BYTES 2       /* one label, low byte first */
+#define WW_INFO0_BITS 49       /* bits of an INFO0 sequence, one to a byte, bit 0 first */
+#define WW_INFO0_BYTES 56      /* fields of ww_info0_read and ww_info0_write */
 
 /* The most that a data frame has, over all settings. The exact lengths are N and 32*P, for the N and P of ww_parameters. */
 #define WW_MAX_BITS 1248        /* bits, one to a byte: s 4, n 13 */
@@ -105,6 +118,8 @@ static inline size_t ww_start_bytes(void) { return WW_START_BYTES; }
 static inline size_t ww_write_bytes(void) { return WW_WRITE_BYTES; }
 static inline size_t ww_read_bytes(void) { return WW_READ_BYTES; }
 static inline size_t ww_label_bytes(void) { return WW_LABEL_BYTES; }
+static inline size_t ww_info0_bits(void) { return WW_INFO0_BITS; }
+static inline size_t ww_info0_bytes(void) { return WW_INFO0_BYTES; }
 static inline size_t ww_max_bits(void) { return WW_MAX_BITS; }
 static inline size_t ww_max_labels_bytes(void) { return WW_MAX_LABELS_BYTES; }
 
@@ -131,6 +146,23 @@ static inline size_t ww_max_labels_bytes(void) { return WW_MAX_LABELS_BYTES; }
 #define WW_NEXT_BITS 0  /* in the answers of ww_write and ww_read: N */
 #define WW_NEXT_STATE 1 /* in the answers of ww_write and ww_read: the next state's first number */
 
+/* Places of the fields of INFO0, in the order of Table 14, and the bit of each. */
+#define WW_INFO0_SUPPORT_2743 0  /* bit 12: 1 where the symbol rate 2743 is supported */
+#define WW_INFO0_SUPPORT_2800 1  /* bit 13: 2800 */
+#define WW_INFO0_SUPPORT_3429 2  /* bit 14: 3429 */
+#define WW_INFO0_LOW_3000 3      /* bit 15: 1 where it can send at the low carrier with 3000 symbols a second */
+#define WW_INFO0_HIGH_3000 4     /* bit 16: at the high carrier with 3000 */
+#define WW_INFO0_LOW_3200 5      /* bit 17: at the low carrier with 3200 */
+#define WW_INFO0_HIGH_3200 6     /* bit 18: at the high carrier with 3200 */
+#define WW_INFO0_ALLOWED_3429 7  /* bit 19: 0 where sending with 3429 is disabled */
+#define WW_INFO0_REDUCTION 8     /* bit 20: 1 where it can reduce its power below the nominal one */
+#define WW_INFO0_DIFFERENCE 9    /* bits 21 to 23: by how many steps the two symbol rates may differ, 0 to 5 */
+#define WW_INFO0_CME 10          /* bit 24: 1 from a CME modem */
+#define WW_INFO0_MARK 11         /* bit 25: 1 where it takes constellations of up to 1664 points. This is the mark */
+#define WW_INFO0_CLOCK 12        /* bits 26 and 27: transmit clock, 0 internal, 1 synchronised to receive, 2 external */
+#define WW_INFO0_ACKNOWLEDGED 13 /* bit 28: 1 acknowledges an INFO0 that was received well, in error recovery */
+#define WW_INFO0_FIELDS 14       /* of them there are so many */
+
 /* The numbers of a state, and the settings alone, as the arguments of a call. */
 #define WW_STATE(x) (x)[0], (x)[1], (x)[2], (x)[3], (x)[4], (x)[5], (x)[6]
 #define WW_SETTINGS(x) (x)[0], (x)[1], (x)[2], (x)[3], (x)[4]
@@ -140,6 +172,20 @@ static inline uint32_t ww_number(const uint8_t *answer, size_t place)
 {
     const uint8_t *from = answer + 4 * place;
     return (uint32_t)from[0] | (uint32_t)from[1] << 8 | (uint32_t)from[2] << 16 | (uint32_t)from[3] << 24;
+}
+
+/*
+ * Puts a number at a place of fields that are handed in. One that 32 bits can't hold is put as 2^32 - 1, which no field
+ * may be: so nothing that was out of range is in range afterwards.
+ */
+static inline void ww_put_number(uint8_t *fields, size_t place, uint64_t number)
+{
+    const uint64_t put = number > 0xffffffffu ? 0xffffffffu : number;
+    uint8_t *to = fields + 4 * place;
+    to[0] = (uint8_t)(put & 255);
+    to[1] = (uint8_t)(put >> 8 & 255);
+    to[2] = (uint8_t)(put >> 16 & 255);
+    to[3] = (uint8_t)(put >> 24 & 255);
 }
 
 /* The label at a place of the labels. For 4D symbol j of mapping frame i the places are 16*i + 4*j and the three behind it. */
@@ -241,6 +287,27 @@ uint32_t ww_write(uint64_t role, uint64_t s, uint64_t n, uint64_t shaping, uint6
 uint32_t ww_read(uint64_t role, uint64_t s, uint64_t n, uint64_t shaping, uint64_t mark, uint64_t reg, uint64_t z,
                  const uint8_t *labels, size_t labels_length, uint8_t *bits, size_t bits_length,
                  uint8_t *answer, size_t answer_length) WW_MUST_USE;
+
+/*
+ * ww_info0_read: the fields of an INFO0 sequence that was received (clause 10.1.2.3, Table 14). The bits are only read.
+ *
+ * A mark that comes from here is 0 or 1, so settings that take it are never refused with 5.
+ *
+ * Owed: bits of WW_INFO0_BITS, in the order in which they were received, each 0 or 1; fields of WW_INFO0_BYTES.
+ * Given: the fields, in the order of the WW_INFO0_.. places.
+ * Refused: 8 (either length), then 9 (anywhere in the sequence), then 16 (either fill, or sync), then 17, then 18
+ * (bits 21 to 23 are above 5, or bits 26 and 27 are 3).
+ */
+uint32_t ww_info0_read(const uint8_t *bits, size_t bits_length, uint8_t *fields, size_t fields_length) WW_MUST_USE;
+
+/*
+ * ww_info0_write: the INFO0 sequence of some fields: ww_info0_read's inverse. The fields are only read.
+ *
+ * Owed: fields of WW_INFO0_BYTES; bits of WW_INFO0_BITS.
+ * Given: the bits, one to a byte, in the order in which they are to be sent: fill, sync, fields, CRC, fill.
+ * Refused: 8 (either length), then 18.
+ */
+uint32_t ww_info0_write(const uint8_t *fields, size_t fields_length, uint8_t *bits, size_t bits_length) WW_MUST_USE;
 
 #ifdef __cplusplus
 }

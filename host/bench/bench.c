@@ -17,8 +17,8 @@
 #include "workerwax.h"
 
 const struct side bench_sides[SIDES] = {
-    {"library", ww_map, ww_rank, ww_write, ww_read},
-    {"plain", second_map, second_rank, second_write, second_read},
+    {"library", ww_map, ww_rank, ww_write, ww_read, ww_info0_read, ww_info0_write},
+    {"plain", second_map, second_rank, second_write, second_read, second_info0_read, second_info0_write},
 };
 
 #define RINGS(k, m) \
@@ -39,6 +39,8 @@ static const struct row rows[] = {
     FRAMES("s4 n12 minimum", 0, 4, 12, 0),
     FRAMES("s3 n6 minimum", 0, 3, 6, 0),
     FRAMES("s0 n1 minimum", 0, 0, 1, 0), /* no S, so little to do: what a call costs at least */
+    {"info0_read", "random fields", info0_draw, info0_read, info0_agree, {0}},
+    {"info0_write", "random fields", info0_draw, info0_write, info0_agree, {0}},
 };
 
 /*

@@ -25,6 +25,10 @@ static struct group groups[] = {
     {compare_damage, {"damaged bits and labels", 0, 187973}},
     {compare_lengths, {"wrong lengths and wide numbers, writer and reader", 0, 57720}},
     {compare_ties, {"several faults at once", 0, 60000}},
+    {compare_info0, {"INFO0 there and back: worked sequences, all 131,072 bodies, fields at their limits", 0, 280160}},
+    {compare_info0_damage, {"INFO0 with bits turned, in bursts too, and with bytes that are no bits", 0, 59380}},
+    {compare_info0_lengths, {"INFO0 with wrong lengths", 0, 1316}},
+    {compare_info0_ties, {"INFO0 with several faults at once", 0, 20000}},
 };
 
 int main(void)

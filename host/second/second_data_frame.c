@@ -5,6 +5,7 @@
  * this data frame. Clause 7 is then one sentence, and the register afterwards is the last 23 of the line.
  */
 #include "second.h"
+#include "second_bits.h"
 #include "second_inside.h"
 
 #define HISTORY 23
@@ -50,16 +51,6 @@ static void put_next(uint8_t *answer, const struct parameters *by, const struct 
 {
     second_put(answer, &by->n, 1);
     second_put_state(answer + 4, next);
-}
-
-static int are_bits(const uint8_t *bits, size_t count)
-{
-    uint8_t seen = 0;
-    size_t i;
-    for (i = 0; i < count; i++) {
-        seen |= bits[i];
-    }
-    return seen <= 1;
 }
 
 uint32_t second_write(uint64_t role, uint64_t s, uint64_t n, uint64_t shaping, uint64_t mark, uint64_t reg, uint64_t z,

@@ -6,6 +6,7 @@
  * first length - 8 symbols carry an I3.
  */
 #include "second.h"
+#include "second_bits.h"
 #include "second_inside.h"
 
 /* Bits of S that the frame carries. */
@@ -18,24 +19,6 @@ static uint64_t bits_of_s(const struct parameters *by, uint64_t length)
 static int carries_i3(const struct parameters *by, uint64_t length, uint64_t j)
 {
     return by->b > 12 || j < length - 8;
-}
-
-/* Takes a number of `count` bits, lowest weight first. */
-static uint64_t take(const uint8_t **bits, uint64_t count)
-{
-    uint64_t i, number = 0;
-    for (i = 0; i < count; i++) {
-        number |= (uint64_t)*(*bits)++ << i;
-    }
-    return number;
-}
-
-static void give(uint8_t **bits, uint64_t number, uint64_t count)
-{
-    uint64_t i;
-    for (i = 0; i < count; i++) {
-        *(*bits)++ = (uint8_t)(number >> i & 1);
-    }
 }
 
 static void put_label(uint8_t *labels, size_t place, uint64_t label)

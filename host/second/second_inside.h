@@ -5,7 +5,7 @@
 #include <stddef.h>
 #include <stdint.h>
 
-/* What comes back: the numbers of the scope paper's table. */
+/* What comes back: the numbers of the scope paper's table, and of the requests behind it. */
 enum {
     DONE = 0,
     ROLE = 1,
@@ -21,7 +21,10 @@ enum {
     SET = 11,
     STEP = 12,
     COUNTS = 13,
-    NUMBER = 14
+    NUMBER = 14,
+    SYNC = 16,
+    CRC = 17,
+    FIELD = 18
 };
 
 /* The numbers that follow from the settings, by their names in V.34. */
@@ -40,8 +43,9 @@ uint32_t second_work_out(const struct state *given, struct parameters *found);
 /* The same, and STATE behind it. */
 uint32_t second_refuse_state(const struct state *given, struct parameters *found);
 
-/* Writes numbers of 32 bits, low byte first. */
+/* Writes numbers of 32 bits, low byte first, and reads them. */
 void second_put(uint8_t *answer, const uint64_t *numbers, size_t count);
+void second_get(const uint8_t *answer, uint64_t *numbers, size_t count);
 
 /* Writes the numbers of a state. */
 void second_put_state(uint8_t *answer, const struct state *state);

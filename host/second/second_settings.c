@@ -115,6 +115,15 @@ void second_put(uint8_t *answer, const uint64_t *numbers, size_t count)
     }
 }
 
+void second_get(const uint8_t *answer, uint64_t *numbers, size_t count)
+{
+    size_t i;
+    for (i = 0; i < count; i++) {
+        const uint8_t *at = answer + 4 * i;
+        numbers[i] = at[0] + 256 * (at[1] + 256 * (at[2] + 256 * (uint64_t)at[3]));
+    }
+}
+
 void second_put_state(uint8_t *answer, const struct state *state)
 {
     const uint64_t numbers[7] = {state->role, state->s, state->n, state->shaping, state->mark, state->reg, state->z};

@@ -6,11 +6,13 @@
 --     short-start-accepts    the settings are right, with shaping 0
 --     write-accepts          the state is one that a start answers, and the bytes are bits
 --     read-accepts           the state is one that a start answers, and no test refuses the labels that the bytes hold
+--     info0-read-accepts     the bits are those of Table 14 for fields that it can say
+--     info0-write-accepts    the bytes hold fields that Table 14 can say
 -- and so ww_write takes every data frame of N bits from a state that a start answered, `writes-from-start`. Assumes nothing.
 use mathlib.Core.Bool.{Bool, true, false, not, cond}
 use mathlib.Core.List.{List, [], _∷_}
 use mathlib.Core.Logic.{_↔_}
-use mathlib.Core.Path.{_≡_, refl, sym, subst, _∙_}
+use mathlib.Core.Path.{_≡_, refl, sym, ap, subst, _∙_}
 use Prim.Native.Nat.{ℕ, _*_, _^_, _≤_, _<_}
 use native.Mathlib.Omega.{arith}
 use lib.Dec.{eqb}
@@ -28,6 +30,11 @@ use Rattle.line.specs.declared.settings.Settings.{Settings}
 use Rattle.line.specs.declared.settings.Worked.the-variants.{Accepted}
 use Rattle.line.specs.Settings.{workedOf, numberOf}
 use Rattle.line.proofs.Acceptance.{Right, unrefused-right, right-unrefused, number-is}
+use Rattle.sequences.specs.Sequence.{sequenceRefusal}
+use Rattle.info.specs.Info0.{info0, numbersOf}
+use Rattle.info.specs.Table14.{Sayable, sequence14}
+use Rattle.info.specs.declared.info0.Info0.{Info0}
+use Rattle.info.proofs.Rows14.{fieldsOf, numbersOf-fieldsOf, reads-exactly, writes-exactly}
 use Rattle.coder.specs.declared.states.State.{State}
 use Rattle.coder.specs.State.{workedIn, startedOf, shortStartedOf}
 use Rattle.coder.specs.Receiving.{receivingOf, allInRange, numbersFit, allStepsFit}
@@ -35,13 +42,16 @@ use Rattle.coder.specs.Answers.{Receivable}
 use Rattle.coder.proofs.Acceptance.{settings-sound, writer-accepts, reader-accepts}
 use Rattle.coder.proofs.Starting.{Fit, fit-worked, plain, start-accepts as state-accepts, short-start-accepts as plain-accepts}
 use Rattle.workerwax.specs.Calls.{own, ParametersCall, RankCall, StartCall, WriteCall, ReadCall}
-use Rattle.workerwax.specs.Layout.{labelsIn, parametersBytes, rankBytes, startBytes, codedBytes}
+use Rattle.workerwax.specs.Info.{Info0ReadCall, Info0WriteCall}
+use Rattle.workerwax.specs.Layout.{numbersIn, labelsIn, parametersBytes, rankBytes, startBytes, codedBytes, info0Bits, info0Bytes}
 use Rattle.workerwax.specs.Lending.{lentLabels}
 use Rattle.workerwax.proofs.Lends.{lent-exact, length-labels}
 use Rattle.workerwax.proofs.Coding.{all-given}
 use Rattle.workerwax.proofs.Ways.{rank-same, rank-is, rank-four}
 use Rattle.workerwax.proofs.Below.{part, part-length, written-number, sendable, written-lent}
 use Rattle.workerwax.proofs.Below.{given, read-number, receivable, given-lent, read-given}
+use Rattle.workerwax.proofs.Undone.{length-numbers}
+use Rattle.workerwax.proofs.Infos.{info0-read-zero, info0-zero-read, info0-write-zero, info0-zero-written}
 
 -- a call that is refused by a part of it, or for one length
 own-parts : (number lent size : ℕ) → refusal (own number ∷ (not (eqb lent size), 8) ∷ []) ≡ 0 → (number ≡ 0) × (lent ≡ size)
@@ -258,3 +268,34 @@ writes-from-start st answer after start =
             },
           ),
     )
+
+-- ww_info0_read and ww_info0_write, by Table 14 of V.34
+pub info0-read-accepts :
+    (bits lent : List ℕ) (r : ℕ) (after : List ℕ) → Info0ReadCall bits lent r after
+    → (r ≡ 0) ↔ (((f : Info0) × Sayable f × (bits ≡ sequence14 f)) × (length lent ≡ info0Bytes))
+info0-read-accepts bits lent r after call = (
+  λ zero. let parts = info0-read-zero bits lent r after call zero in (reads-exactly bits .0 (parts .1), parts .0),
+  λ p. info0-zero-read bits lent r after call (p .1) (reads-exactly bits .1 (p .0)),
+)
+
+pub info0-write-accepts :
+    (fields lent : List ℕ) (r : ℕ) (after : List ℕ) → Info0WriteCall fields lent r after
+    → (r ≡ 0)
+    ↔ (((f : Info0) × Sayable f × (numbersOf f ≡ numbersIn fields)) × (length fields ≡ info0Bytes) × (length lent ≡ info0Bits))
+info0-write-accepts fields lent r after call = (there, back)
+  where
+    refused : List ℕ → ℕ
+    refused numbers = sequenceRefusal info0 numbers (length lent)
+
+    there : r ≡ 0 → ((f : Info0) × Sayable f × (numbersOf f ≡ numbersIn fields)) × (length fields ≡ info0Bytes) × (length lent ≡ info0Bits)
+    there zero =
+        let parts = info0-write-zero fields lent r after call zero in
+        let f = fieldsOf (numbersIn fields) in
+        let same = numbersOf-fieldsOf (numbersIn fields) (length-numbers 14 fields (parts .0)) in
+        let said = writes-exactly f (length lent) .0 (ap refused same ∙ parts .1) in
+        ((f, said .0, same), parts .0, said .1)
+
+    back : ((f : Info0) × Sayable f × (numbersOf f ≡ numbersIn fields)) × (length fields ≡ info0Bytes) × (length lent ≡ info0Bits) → r ≡ 0
+    back p =
+        info0-zero-written fields lent r after call (p .1)
+        (ap refused (sym (p .0 .2)) ∙ writes-exactly (p .0 .0) (length lent) .1 (p .0 .1, p .2))

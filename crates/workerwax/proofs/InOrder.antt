@@ -19,11 +19,14 @@ use Rattle.line.specs.declared.settings.Settings.{Settings}
 use Rattle.line.specs.declared.settings.Worked.{Worked}
 use Rattle.line.specs.declared.settings.Worked.the-variants.{Accepted, Refused}
 use Rattle.line.proofs.Acceptance.{number-is, refused-some}
+use Rattle.sequences.specs.Sequence.{fieldsTests, sequenceTests}
+use Rattle.info.specs.Info0.{info0}
 use Rattle.coder.specs.declared.states.State.{State}
 use Rattle.coder.specs.State.{stateOf, workedIn, unfit, stateRefusalOf, startedOf, shortStartedOf}
 use Rattle.coder.specs.Answers.{writeTests, readTests}
 use Rattle.workerwax.specs.Calls.{order, own, parametersNumber, rankNumber, startNumber, exactBytes, writeNumber, readNumber}
-use Rattle.workerwax.specs.Layout.{labelsIn, parametersBytes, rankBytes, startBytes}
+use Rattle.workerwax.specs.Info.{info0ReadNumber, info0WriteNumber}
+use Rattle.workerwax.specs.Layout.{numbersIn, labelsIn, parametersBytes, rankBytes, startBytes, info0Bits, info0Bytes}
 use Rattle.workerwax.proofs.Ways.{own-given}
 
 -- The settings' tests, and more behind them: refused settings give their own number, accepted ones leave it to the others.
@@ -158,3 +161,24 @@ module _ (st : State) (labels : List ℕ) (bits answer : ℕ) where
   unfolding follows numbered
   read-follows (Refused k) = refl
   read-follows (Accepted c) = refl
+
+-- ww_info0_read and ww_info0_write: the tests of the reader and of the writer of a sequence
+abbrev pub info0ReadTests : List ℕ → ℕ → List (Bool × ℕ)
+info0ReadTests bits lent = fieldsTests info0 bits (eqb (length bits) info0Bits && eqb lent info0Bytes)
+
+pub info0-read-listed : (bits : List ℕ) (lent : ℕ) → info0ReadNumber bits lent ≡ refusal (info0ReadTests bits lent)
+info0-read-listed bits lent = refl
+
+pub info0-read-follows : (bits : List ℕ) (lent : ℕ) → follows order (numbered (info0ReadTests bits lent)) ≡ true
+unfolding follows numbered fieldsTests
+info0-read-follows bits lent = refl
+
+abbrev pub info0WriteTests : List ℕ → ℕ → List (Bool × ℕ)
+info0WriteTests fields lent = sequenceTests info0 (numbersIn fields) (eqb (length fields) info0Bytes && eqb lent info0Bits)
+
+pub info0-write-listed : (fields : List ℕ) (lent : ℕ) → info0WriteNumber fields lent ≡ refusal (info0WriteTests fields lent)
+info0-write-listed fields lent = refl
+
+pub info0-write-follows : (fields : List ℕ) (lent : ℕ) → follows order (numbered (info0WriteTests fields lent)) ≡ true
+unfolding follows numbered sequenceTests
+info0-write-follows fields lent = refl

@@ -1,15 +1,16 @@
--- Numbers and labels put into bytes one after the other, and labels taken out of bytes: what each store adds to what is done, and that
--- what is done and what is left make the whole. Assumes nothing.
+-- Numbers and labels put into bytes one after the other, and taken out of bytes: what each store adds to what is done, and that what is
+-- done and what is left make the whole. Assumes nothing.
 use mathlib.Core.List.{List, [], _∷_, _++_, append-assoc, append-nil}
 use mathlib.Core.Path.{_≡_, refl, sym, ap, _∙_}
 use Prim.Native.Nat.{ℕ, suc, _+_, _*_, _/_, _%_, _≤_, _<_}
+use native.Mathlib.Nat.{mul-zero}
 use native.Mathlib.Numerals.{add-one}
 use native.Mathlib.Omega.{arith}
 use lib.ListN.{length, take, drop, getD, set, length-append, length-set, drop-of-length-le}
 use lib.Seq.{take-suc, take-suc-set, drop-cons, take-all}
 use Rattle.laws.specs.Put.{Put}
 use Rattle.laws.proofs.Puts.{four-stores, put-whole}
-use Rattle.workerwax.specs.Layout.{word, words, labelBytes, labelsIn}
+use Rattle.workerwax.specs.Layout.{word, words, numbersIn, labelBytes, labelsIn}
 
 -- One number: four stores.
 module _ (l : List ℕ) (at n : ℕ) (room : at + 4 ≤ length l) where
@@ -142,51 +143,88 @@ laid-all labels out i l all =
     sym (take-all (2 * i) out (omega (arith, l .size)))
     ∙ (sym (append-nil (take (2 * i) out)) ∙ (ap (λ (t : List ℕ). take (2 * i) out ++ labelBytes t) (sym none) ∙ l .made))
 
--- Labels out of bytes.
-pub record Taken (bytes labels : List ℕ) (i : ℕ) : Type 0 where
-  pub upTo : i ≤ length labels
-  pub size : length bytes ≡ 2 * length labels
-  pub made : take i labels ++ labelsIn (drop (2 * i) bytes) ≡ labelsIn bytes
+-- Items out of bytes, so many bytes to each: i items are taken, and what is left makes the whole. `held` says which items bytes hold.
+pub record Taken (wide : ℕ) (held : List ℕ → List ℕ) (bytes items : List ℕ) (i : ℕ) : Type 0 where
+  pub upTo : i ≤ length items
+  pub size : length bytes ≡ wide * length items
+  pub made : take i items ++ held (drop (wide * i) bytes) ≡ held bytes
 
-pub taken-none : (bytes labels : List ℕ) → length bytes ≡ 2 * length labels → Taken bytes labels 0
-taken-none bytes labels size = record { upTo = omega arith; size = size; made = refl }
+module _ (wide : ℕ) (held : List ℕ → List ℕ) (bytes items : List ℕ) where
+  pub taken-none : length bytes ≡ wide * length items → Taken wide held bytes items 0
+  taken-none size =
+      record { upTo = omega arith; size = size; made = ap (λ (k : ℕ). held (drop k bytes)) (mul-zero wide) }
 
-module _ (bytes labels : List ℕ) (i : ℕ) (t : Taken bytes labels i) (more : i < length labels) where
-  abbrev lowest : ℕ
-  lowest = getD bytes (2 * i) 0
-
-  abbrev highest : ℕ
-  highest = getD bytes (2 * i + 1) 0
-
-  two-off : drop (2 * i) bytes ≡ lowest ∷ highest ∷ drop (2 * (i + 1)) bytes
-  two-off =
-      let place : 2 * i + 1 ≡ suc (2 * i) = omega arith in
-      let places : 2 * (i + 1) ≡ suc (2 * i + 1) = omega arith in
-      drop-cons bytes (2 * i) 0 (omega (arith, t .size))
-      ∙ ap (λ (l : List ℕ). lowest ∷ l) (ap (λ (k : ℕ). drop k bytes) (sym place)
-      ∙ (drop-cons bytes (2 * i + 1) 0 (omega (arith, t .size)) ∙ ap (λ (k : ℕ). highest ∷ drop k bytes) (sym places)))
-
-  next : labelsIn (drop (2 * i) bytes) ≡ (lowest + 256 * highest) ∷ labelsIn (drop (2 * (i + 1)) bytes)
-  unfolding labelsIn
-  next = ap labelsIn two-off
-
-  pub taken-more : Taken bytes (set labels i (lowest + 256 * highest)) (i + 1)
-  taken-more =
-      let value = lowest + 256 * highest in
-      let stores : take (i + 1) (set labels i value) ≡ take i labels ++ value ∷ [] = rw add-one (take-suc-set labels i value more) in
+  -- one more, where what is left holds it first
+  pub taken-more :
+      (i value : ℕ) → Taken wide held bytes items i → i < length items
+      → held (drop (wide * i) bytes) ≡ value ∷ held (drop (wide * (i + 1)) bytes) → Taken wide held bytes (set items i value) (i + 1)
+  taken-more i value t more next =
+      let stores : take (i + 1) (set items i value) ≡ take i items ++ value ∷ [] = rw add-one (take-suc-set items i value more) in
       record {
-        upTo = omega (arith, length-set labels i value);
-        size = t .size ∙ omega (arith, length-set labels i value);
+        upTo = omega (arith, length-set items i value);
+        size = t .size ∙ ap (λ (n : ℕ). wide * n) (sym (length-set items i value));
         made =
-            ap (λ (l : List ℕ). l ++ labelsIn (drop (2 * (i + 1)) bytes)) stores
-            ∙ (append-assoc (take i labels) (value ∷ []) (labelsIn (drop (2 * (i + 1)) bytes))
-            ∙ (ap (λ (l : List ℕ). take i labels ++ l) (sym next) ∙ t .made));
+            ap (λ (l : List ℕ). l ++ held (drop (wide * (i + 1)) bytes)) stores
+            ∙ (append-assoc (take i items) (value ∷ []) (held (drop (wide * (i + 1)) bytes))
+            ∙ (ap (λ (l : List ℕ). take i items ++ l) (sym next) ∙ t .made));
       }
 
-pub taken-all : (bytes labels : List ℕ) (i : ℕ) → Taken bytes labels i → length labels ≤ i → labels ≡ labelsIn bytes
+  pub taken-all : (i : ℕ) → held [] ≡ [] → Taken wide held bytes items i → length items ≤ i → items ≡ held bytes
+  taken-all i empty t all =
+      let last : i ≡ length items = omega (arith, t .upTo) in
+      let end : length bytes ≡ wide * i = t .size ∙ ap (λ (n : ℕ). wide * n) (sym last) in
+      let short : length bytes ≤ wide * i = omega (arith, end) in
+      let none : drop (wide * i) bytes ≡ [] = drop-of-length-le bytes short in
+      sym (take-all i items all)
+      ∙ (sym (append-nil (take i items))
+      ∙ (ap (λ (l : List ℕ). take i items ++ l) (sym (ap held none ∙ empty)) ∙ t .made))
+
+-- two bytes off the front of what is left
+two-off :
+    (bytes : List ℕ) (k : ℕ) → k + 2 ≤ length bytes → drop k bytes ≡ getD bytes k 0 ∷ getD bytes (k + 1) 0 ∷ drop (k + 2) bytes
+two-off bytes k h =
+    let place : k + 1 ≡ suc k = omega arith in
+    let places : k + 2 ≡ suc (k + 1) = omega arith in
+    drop-cons bytes k 0 (omega arith)
+    ∙ ap (λ (l : List ℕ). getD bytes k 0 ∷ l) (ap (λ (j : ℕ). drop j bytes) (sym place)
+    ∙ (drop-cons bytes (k + 1) 0 (omega arith) ∙ ap (λ (j : ℕ). getD bytes (k + 1) 0 ∷ drop j bytes) (sym places)))
+
+-- Labels out of bytes.
+pub no-labels : labelsIn [] ≡ []
 unfolding labelsIn
-taken-all bytes labels i t all =
-    let short : length bytes ≤ 2 * i = omega (arith, t .size) in
-    let none : drop (2 * i) bytes ≡ [] = drop-of-length-le bytes short in
-    sym (take-all i labels all)
-    ∙ (sym (append-nil (take i labels)) ∙ (ap (λ (l : List ℕ). take i labels ++ labelsIn l) (sym none) ∙ t .made))
+no-labels = refl
+
+pub label-next :
+    (bytes : List ℕ) (i : ℕ) → 2 * i + 2 ≤ length bytes
+    → labelsIn (drop (2 * i) bytes) ≡ (getD bytes (2 * i) 0 + 256 * getD bytes (2 * i + 1) 0) ∷ labelsIn (drop (2 * (i + 1)) bytes)
+unfolding labelsIn
+label-next bytes i h =
+    let places : 2 * i + 2 ≡ 2 * (i + 1) = omega arith in
+    ap labelsIn (two-off bytes (2 * i) h)
+    ∙ ap (λ (j : ℕ). (getD bytes (2 * i) 0 + 256 * getD bytes (2 * i + 1) 0) ∷ labelsIn (drop j bytes)) places
+
+-- Numbers out of bytes.
+pub no-numbers : numbersIn [] ≡ []
+unfolding numbersIn
+no-numbers = refl
+
+-- in two halves, as they are worked out
+abbrev pub halves : List ℕ → ℕ → ℕ
+halves bytes at = getD bytes at 0 + 256 * getD bytes (at + 1) 0 + 65536 * (getD bytes (at + 2) 0 + 256 * getD bytes (at + 3) 0)
+
+pub number-next :
+    (bytes : List ℕ) (i : ℕ) → 4 * i + 4 ≤ length bytes
+    → numbersIn (drop (4 * i) bytes) ≡ halves bytes (4 * i) ∷ numbersIn (drop (4 * (i + 1)) bytes)
+unfolding numbersIn
+number-next bytes i h =
+    let a = getD bytes (4 * i) 0 in
+    let b = getD bytes (4 * i + 1) 0 in
+    let c = getD bytes (4 * i + 2) 0 in
+    let d = getD bytes (4 * i + 3) 0 in
+    let third : 4 * i + 2 + 1 ≡ 4 * i + 3 = omega arith in
+    let fourth : 4 * i + 2 + 2 ≡ 4 * (i + 1) = omega arith in
+    let upper : drop (4 * i + 2) bytes ≡ c ∷ d ∷ drop (4 * (i + 1)) bytes =
+    rw (third, fourth) at (two-off bytes (4 * i + 2) (omega arith)) in
+    let same : a + 256 * b + 65536 * c + 16777216 * d ≡ halves bytes (4 * i) = omega arith in
+    ap numbersIn (two-off bytes (4 * i) (omega arith) ∙ ap (λ (l : List ℕ). a ∷ b ∷ l) upper)
+    ∙ ap (λ (n : ℕ). n ∷ numbersIn (drop (4 * (i + 1)) bytes)) same

@@ -3,7 +3,9 @@
 --     Accepts      which calls get 0, exactly, and that ww_write takes every data frame from a start
 --     InOrder      the refusals of every call follow one row
 --     Unstated     an unstated mark is never taken as permission
+--     FromTheLine  the mark that ww_info0_read answers is bit 25, and no call refuses it as unstated
 --     Back         ww_write and ww_read undo each other
+--     InfoBack     ww_info0_write and ww_info0_read undo each other
 --     Places       ww_map and ww_rank by how many sets stand before a set, and that they undo each other
 --     Words        what the words of an answer say, and that the state in them is fit again
 --     Undone       bytes there and back, and worked layouts
@@ -13,13 +15,16 @@
 --     Refusals     every refusal number fits the 32 bits in which C gets it
 --     Ways         the settings, the starts and the ranker by their ways out
 --     Coding       the writer and the reader by their ways out
+--     Infos        the calls of the INFO sequences by their ways out, and what the reader and the writer below them did
 -- and for the theorems
 --     Below        a call of ww_write or ww_read, and what the coder below it did
 pub mod Outcomes
 pub mod Accepts
 pub mod InOrder
 pub mod Unstated
+pub mod FromTheLine
 pub mod Back
+pub mod InfoBack
 pub mod Places
 pub mod Words
 pub mod Undone
@@ -28,4 +33,5 @@ pub mod Lends
 pub mod Refusals
 pub mod Ways
 pub mod Coding
+pub mod Infos
 pub mod Below

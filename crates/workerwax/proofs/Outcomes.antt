@@ -7,6 +7,7 @@ use Rattle.rings.specs.Mapping.{MapAnswer}
 use Rattle.coder.specs.declared.states.State.{State}
 use Rattle.coder.specs.declared.states.Started.{Started}
 use Rattle.workerwax.specs.Calls.{ParametersCall, RankCall, StartCall, WriteCall, ReadCall}
+use Rattle.workerwax.specs.Info.{Info0ReadCall, Info0WriteCall}
 
 pub one-parameters :
     (worked : Worked) (answer : List ℕ) (v w : ℕ) (after other : List ℕ)
@@ -42,3 +43,13 @@ pub one-reading :
     → (v ≡ w) × (bits ≡ bits′) × (after ≡ other)
 one-reading st labels lent answer v w bits bits′ after other p q =
     (p .number ∙ sym (q .number), p .bits ∙ sym (q .bits), p .next ∙ sym (q .next))
+
+pub one-info0-reading :
+    (bits lent : List ℕ) (v w : ℕ) (after other : List ℕ)
+    → Info0ReadCall bits lent v after → Info0ReadCall bits lent w other → (v ≡ w) × (after ≡ other)
+one-info0-reading bits lent v w after other p q = (p .number ∙ sym (q .number), p .fields ∙ sym (q .fields))
+
+pub one-info0-writing :
+    (fields lent : List ℕ) (v w : ℕ) (after other : List ℕ)
+    → Info0WriteCall fields lent v after → Info0WriteCall fields lent w other → (v ≡ w) × (after ≡ other)
+one-info0-writing fields lent v w after other p q = (p .number ∙ sym (q .number), p .sequence ∙ sym (q .sequence))

@@ -16,6 +16,7 @@ use Rattle.line.specs.declared.settings.Worked.{Worked}
 use Rattle.line.specs.declared.settings.Worked.the-variants.{Accepted, Refused}
 use Rattle.line.specs.Settings.{workedOf, numberOf}
 use Rattle.line.proofs.Acceptance.{number-most}
+use Rattle.sequences.specs.Sequence.{Sequence, fieldsTests, sequenceTests, fieldsRefusal, sequenceRefusal}
 use Rattle.coder.specs.declared.states.State.{State}
 use Rattle.coder.specs.declared.states.Coded.{Coded}
 use Rattle.coder.specs.State.{workedIn, stateRefusalOf, startedOf, shortStartedOf}
@@ -98,3 +99,12 @@ read-narrow st labels lent = omega (arith, read-refusal st labels lent, go (work
     go : (w : Worked) → numberOf w < 2 ^ 32 → readRefusal w st labels lent < 2 ^ 32
     go (Refused number) h = h
     go (Accepted c) h = narrow-refusal _ refl
+
+-- The reader and the writer of a sequence.
+pub fields-narrow : (s : Sequence) (bits : List ℕ) → fieldsRefusal s bits < 2 ^ 32
+unfolding fieldsTests
+fields-narrow s bits = narrow-refusal _ refl
+
+pub sequence-narrow : (s : Sequence) (numbers : List ℕ) (lent : ℕ) → sequenceRefusal s numbers lent < 2 ^ 32
+unfolding sequenceTests
+sequence-narrow s numbers lent = narrow-refusal _ refl

@@ -1,7 +1,7 @@
--- Bytes there and back: numbers below 2^32 and labels below 2^16 are read back as they were laid out, and bytes that are taken as labels
--- are laid out again as they were. Assumes nothing.
+-- Bytes there and back: numbers below 2^32 and labels below 2^16 are read back as they were laid out, and bytes that are taken as numbers
+-- or as labels are laid out again as they were. Assumes nothing.
 use mathlib.Core.Bool.{true, _&&_}
-use mathlib.Core.List.{List, [], _∷_}
+use mathlib.Core.List.{List, [], _∷_, _++_}
 use mathlib.Core.Path.{_≡_, refl, ap, ap₂, _∙_}
 use Prim.Native.Nat.{ℕ, zero, suc, _+_, _*_, _/_, _%_, _^_, _≤_, _<_}
 use native.Mathlib.Nat.{mod-eq-of-lt, add-mul-mod-self-left, div-div-eq-div-mul}
@@ -39,12 +39,54 @@ pub number-back : (n : ℕ) → FourBytes n → numbersIn (word n) ≡ n ∷ []
 unfolding word numbersIn
 number-back n h = ap (λ (x : ℕ). x ∷ []) (bytes-of n h)
 
+abbrev pub Byte : ℕ → Type 0
+Byte b = b < 256
+
+-- the lowest byte, and what stands above it
+first-byte : (a b : ℕ) → Byte a → (a + 256 * b) % 256 ≡ a
+first-byte a b h = add-mul-mod-self-left a 256 b ∙ mod-eq-of-lt h
+
+above : (a b : ℕ) → Byte a → (a + 256 * b) / 256 ≡ b
+above a b h = omega (arith, h)
+
+-- the four bytes of a number that was taken from four bytes
+word-back :
+    (a b c d : ℕ) → Byte a → Byte b → Byte c → Byte d → word (a + 256 * b + 65536 * c + 16777216 * d) ≡ a ∷ b ∷ c ∷ d ∷ []
+unfolding word
+word-back a b c d p q r t =
+    let n = a + 256 * b + 65536 * c + 16777216 * d in
+    let upper = c + 256 * d in
+    let whole : n ≡ a + 256 * (b + 256 * upper) = omega arith in
+    let second : n / 256 ≡ b + 256 * upper = rw whole (above a (b + 256 * upper) p) in
+    let third : n / 65536 ≡ upper = rw (← div-div-eq-div-mul n 256 256) (rw second (above b upper q)) in
+    let last : n / 16777216 ≡ d = rw (← div-div-eq-div-mul n 65536 256) (rw third (above c d r)) in
+    rw (second, third, last, first-byte b upper q, first-byte c d r, mod-eq-of-lt t)
+    (ap (λ (x : ℕ). x ∷ b ∷ c ∷ d ∷ []) (ap (λ (x : ℕ). x % 256) whole ∙ first-byte a (b + 256 * upper) p))
+
+pub words-back : (k : ℕ) (bytes : List ℕ) → length bytes ≡ 4 * k → Every Byte bytes → words (numbersIn bytes) ≡ bytes
+unfolding words numbersIn
+words-back zero [] e h = refl
+words-back zero (a ∷ bytes) e h = absurd (omega arith)
+words-back (suc k) [] e h = absurd (omega arith)
+words-back (suc k) (a ∷ []) e h = absurd (omega arith)
+words-back (suc k) (a ∷ b ∷ []) e h = absurd (omega arith)
+words-back (suc k) (a ∷ b ∷ c ∷ []) e h = absurd (omega arith)
+words-back (suc k) (a ∷ b ∷ c ∷ d ∷ bytes) e h =
+    ap₂ _++_ (word-back a b c d (h .0) (h .1 .0) (h .1 .1 .0) (h .1 .1 .1 .0)) (words-back k bytes (omega arith) (h .1 .1 .1 .1))
+
+pub length-numbers : (k : ℕ) (bytes : List ℕ) → length bytes ≡ 4 * k → length (numbersIn bytes) ≡ k
+unfolding numbersIn
+length-numbers zero [] e = refl
+length-numbers zero (a ∷ bytes) e = absurd (omega arith)
+length-numbers (suc k) [] e = absurd (omega arith)
+length-numbers (suc k) (a ∷ []) e = absurd (omega arith)
+length-numbers (suc k) (a ∷ b ∷ []) e = absurd (omega arith)
+length-numbers (suc k) (a ∷ b ∷ c ∷ []) e = absurd (omega arith)
+length-numbers (suc k) (a ∷ b ∷ c ∷ d ∷ bytes) e = ap suc (length-numbers k bytes (omega arith))
+
 -- Labels.
 abbrev pub TwoBytes : ℕ → Type 0
 TwoBytes label = label < 65536
-
-abbrev pub Byte : ℕ → Type 0
-Byte b = b < 256
 
 pub labels-back : (labels : List ℕ) → Every TwoBytes labels → labelsIn (labelBytes labels) ≡ labels
 unfolding labelBytes labelsIn
@@ -53,14 +95,9 @@ labels-back (label ∷ labels) h =
     let both : label % 256 + 256 * (label / 256 % 256) ≡ label = omega (arith, h .0) in
     ap₂ (λ (x : ℕ) (xs : List ℕ). x ∷ xs) both (labels-back labels (h .1))
 
--- the two bytes of a label that was taken from two bytes
-first-byte : (a b : ℕ) → Byte a → (a + 256 * b) % 256 ≡ a
-first-byte a b h = add-mul-mod-self-left a 256 b ∙ mod-eq-of-lt h
-
+-- the higher byte of a label that was taken from two bytes
 second-byte : (a b : ℕ) → Byte a → Byte b → (a + 256 * b) / 256 % 256 ≡ b
-second-byte a b h k =
-    let whole : (a + 256 * b) / 256 ≡ b = omega (arith, h) in
-    ap (λ (n : ℕ). n % 256) whole ∙ mod-eq-of-lt k
+second-byte a b h k = ap (λ (n : ℕ). n % 256) (above a b h) ∙ mod-eq-of-lt k
 
 pub bytes-back : (k : ℕ) (bytes : List ℕ) → length bytes ≡ 2 * k → Every Byte bytes → labelBytes (labelsIn bytes) ≡ bytes
 unfolding labelBytes labelsIn

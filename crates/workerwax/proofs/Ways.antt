@@ -76,15 +76,16 @@ module _ (begun : Started) (answer : List ℕ) where
   unfolding refusal
   start-done after e exact is = record { number = rw (e, exact); state = rw (e, exact) is }
 
--- ww_rank: `shown` is what the ranker is shown, and its number is the call's.
-and-last : (b : Bool) → (b && true) ≡ b
+-- a test and one that passes, and a test and one that fails
+pub and-last : (b : Bool) → (b && true) ≡ b
 and-last true = refl
 and-last false = refl
 
-and-none : (b : Bool) → (b && false) ≡ false
+pub and-none : (b : Bool) → (b && false) ≡ false
 and-none true = refl
 and-none false = refl
 
+-- ww_rank: `shown` is what the ranker is shown, and its number is the call's.
 module _ (K M : ℕ) (rings answer : List ℕ) where
   abbrev pub shown : List ℕ
   shown = take (shownRings (length rings) (length answer)) rings

@@ -7,6 +7,8 @@
 --     ww_rank                     13; 8; 10; 11
 --     ww_write                    the settings' own; 7; 8; 9
 --     ww_read                     the settings' own; 7; 8; 10; 11; 12
+--     ww_info0_read               8; 9; 16; 17; 18                        (specs/Info)
+--     ww_info0_write              8; 18                                   (specs/Info)
 --
 -- 8 is for any slice that is not as long as it has to be, the answer's too. A refused call leaves every slice as it was. A call that
 -- answers 0 has filled them:
@@ -42,7 +44,7 @@ use Rattle.workerwax.specs.Layout.{word, words, labelBytes, labelsIn, pa
 
 -- every refusal, in the one order in which each call tests for its own: of several that hold the first in this row is given
 abbrev pub order : List ℕ
-order = 1 ∷ 2 ∷ 3 ∷ 4 ∷ 5 ∷ 6 ∷ 7 ∷ 13 ∷ 8 ∷ 9 ∷ 10 ∷ 11 ∷ 12 ∷ 14 ∷ []
+order = 1 ∷ 2 ∷ 3 ∷ 4 ∷ 5 ∷ 6 ∷ 7 ∷ 13 ∷ 8 ∷ 9 ∷ 10 ∷ 11 ∷ 12 ∷ 14 ∷ 16 ∷ 17 ∷ 18 ∷ []
 
 -- a lent slice after a call: what the call gives where it answers 0, and what the slice held where it refuses
 abbrev pub filled : ℕ → List ℕ → List ℕ → List ℕ

@@ -9,6 +9,7 @@
 --     rankBytes           S                                     4 bytes
 --     startBytes          role s n shaping mark register Z      28 bytes
 --     codedBytes          N, and the next state                 32 bytes
+--     info0Bytes          the fields of INFO0                   56 bytes, and info0Bits its 49 bits, a byte each
 use mathlib.Core.List.{List, [], _∷_, _++_}
 use Prim.Native.Nat.{ℕ, _+_, _*_, _/_, _%_}
 
@@ -51,3 +52,10 @@ startBytes = 4 * 7
 
 abbrev pub codedBytes : ℕ
 codedBytes = 4 + startBytes
+
+abbrev pub info0Bytes : ℕ
+info0Bytes = 4 * 14
+
+-- and of a sequence, one for a bit
+abbrev pub info0Bits : ℕ
+info0Bits = 49

@@ -1,8 +1,10 @@
 -- What C sees (docs/INTERFACE.md): bytes.
 --     Layout    numbers and labels as bytes
---     Calls     what each call answers, for all inputs
+--     Calls     what each call answers, for all inputs, and the order of all refusals
+--     Info      the same for the calls of the INFO sequences
 -- and for private functions
 --     Lending   how much the coder is lent, and the ranker shown
 pub mod Layout
 pub mod Calls
+pub mod Info
 pub mod Lending

@@ -3,7 +3,7 @@ ghost use mathlib.Core.Path.{_≡_};
 ghost use Prim.Native.Nat.{_+_, _*_, _^_, _≤_, _<_};
 ghost use lib.ListN.{length};
 ghost use Rattle.laws.specs.Put.{Put};
-ghost use Rattle.workerwax.specs.Layout.{word, words, labelBytes, labelsIn};
+ghost use Rattle.workerwax.specs.Layout.{word, words, numbersIn, labelBytes, labelsIn};
 
 // A refusal number as C gets it.
 pub fn narrow(refusal: u64) -> u32
@@ -35,6 +35,21 @@ pub fn put_words(out: &mut [u8], numbers: &[u64])
     while i < numbers.len() {
         next = put_word(out, next, numbers[i]);
         i += 1;
+    }
+}
+
+// Numbers out of a slice that has just their bytes.
+pub fn take_words(bytes: &[u8], numbers: &mut [u64])
+    requires { ⌜ length (now bytes) ≡ 4 * length (now numbers) ⌝ }
+    ensures { λ r. ⌜ now (numbers .exit) ≡ numbersIn (now (bytes .entry)) ⌝ }
+{
+    let mut k = 0;
+    while k < numbers.len() {
+        let at = 4 * k;
+        let low = bytes[at] as u64 + 256 * bytes[at + 1] as u64;
+        let high = bytes[at + 2] as u64 + 256 * bytes[at + 3] as u64;
+        numbers[k] = low + 65536 * high;
+        k += 1;
     }
 }
 

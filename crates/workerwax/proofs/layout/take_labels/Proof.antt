@@ -5,12 +5,13 @@ use Prim.Native.Nat.{ℕ, _+_, _-_, _*_, _≤_, _<_}
 use native.Mathlib.Omega.{arith}
 use borrow.Author.Needs.{needs}
 use lib.ListN.{length, length-set}
-use Rattle.workerwax.proofs.Layouts.{Taken, taken-none, taken-more, taken-all}
+use Rattle.workerwax.specs.Layout.{labelsIn}
+use Rattle.workerwax.proofs.Layouts.{Taken, taken-none, taken-more, taken-all, no-labels, label-next}
 use Rattle.workerwax.proofs.layout.take_labels.Statement.{statement}
 use Rattle.workerwax.proofs.layout.take_labels.Tie as tie
 
 abbrev Inv-loop : tie.InvT-loop
-Inv-loop bytes labels₀ i₀ labels i = Taken bytes labels i × (length labels ≡ length labels₀)
+Inv-loop bytes labels₀ i₀ labels i = Taken 2 labelsIn bytes labels i × (length labels ≡ length labels₀)
 
 abbrev μ-loop : tie.MeasureT-loop
 μ-loop bytes labels₀ i₀ labels i = length labels₀ - i
@@ -27,7 +28,7 @@ abbrev place : tie.At-loop Inv-loop μ-loop → ℕ
 place l = 2 * l .loop .i
 
 loop-holds : tie.Need-loop-holds Inv-loop μ-loop
-loop-holds c = (taken-none _ _ (c .pre), search needs)
+loop-holds c = (taken-none 2 labelsIn _ _ (c .pre), search needs)
 
 mul-labels : tie.Need-mul-labels Inv-loop μ-loop
 mul-labels c = search (there c, needs)
@@ -72,16 +73,20 @@ loop-less c = let k = c .before .before in omega (arith, k .loop-test .taken, k 
 
 loop-again : tie.Need-loop-again Inv-loop μ-loop
 loop-again c =
-    let turn = c .before .before .before in
-    let l = turn .loop in
-    let bytes = turn .before .args .bytes .now in
-    (taken-more bytes (l .labels) (l .i) (l .inv .0) (more (c .before .before)), length-set (l .labels) (l .i) _ ∙ l .inv .1)
+    let k = c .before .before in
+    let l = k .before .loop in
+    let bytes = k .before .before .args .bytes .now in (
+      taken-more 2 labelsIn bytes (l .labels) (l .i) _ (l .inv .0) (more k) (label-next bytes (l .i) (there k)),
+      length-set (l .labels) (l .i) _ ∙ l .inv .1,
+    )
 
 same-length : tie.Need-same-length Inv-loop μ-loop
 same-length c = c .before .loop .inv .1
 
 returns : tie.Need-returns Inv-loop μ-loop
-returns c = let l = c .before .loop in taken-all (c .before .before .args .bytes .now) (l .labels) (l .i) (l .inv .0) (c .loop-test .left)
+returns c =
+    let l = c .before .loop in
+    taken-all 2 labelsIn (c .before .before .args .bytes .now) (l .labels) (l .i) no-labels (l .inv .0) (c .loop-test .left)
 
 pub take-labels-spec : {M : Type 1} → statement M
 take-labels-spec =
