@@ -7,8 +7,9 @@
  * framing (clause 8), parser, shell mapper and differential coder (clauses 9.3 to 9.5). The reader is the exact
  * inverse. Trellis coder, precoder, non-linear coder, auxiliary channel and start-up signalling are the caller's.
  *
- * So that the mark comes from the line and not from a binder, the far end's INFO0 sequence is read, and ours is written
- * (clause 10.1.2.3, Table 14). The caller sends and receives its bits.
+ * So that settings come from the line and not from a binder, the INFO0 and INFO1c sequences are read and written (clause
+ * 10.1.2.3, Tables 14 and 15): from INFO0 comes the mark, from INFO1c what is proposed for each symbol rate. The caller
+ * sends and receives their bits.
  *
  * How does it work?
  *
@@ -31,25 +32,29 @@
  * was, the answer too.
  *
  * Answers. What else there is to say goes into the lent answer: numbers of 32 bits, four bytes each, low byte first, in
- * the order given at the call. ww_number takes one out. Its places are the WW_PARAMETERS_.., WW_STATE_.., WW_INFO0_..
- * below. Fields that are handed in have the layout in which they are answered, so what was read can be written as it is;
- * ww_put_number puts one number there.
+ * the order given at the call. ww_number takes one out. Its places are the WW_PARAMETERS_.., WW_STATE_.., WW_INFO0_..,
+ * WW_INFO1C_.. below. A number that may be negative is in two's complement: ww_signed_number takes it out. A number that
+ * is no whole one stands behind the others, as the eight bytes of an IEEE 754 double, low byte first, and has a getter of
+ * its own.
+ * Fields that are handed in have the layout in which they are answered, so what was read can be written as it is;
+ * ww_put_number and ww_put_signed_number put one number there.
  */
 #ifndef WORKERWAX_H
 #define WORKERWAX_H
 
 #include <stddef.h>
 #include <stdint.h>
+#include <string.h>
 
 #ifdef __cplusplus
 extern "C" {
 #endif
 
 #define WW_VERSION_MAJOR 0
-#define WW_VERSION_MINOR 2
-#define WW_VERSION_STRING "0.2"
+#define WW_VERSION_MINOR 3
+#define WW_VERSION_STRING "0.3"
 
-/* A refusal that nobody looks at is taken for success. */
+/* A refusal that nobody looks at is taken for success, and an offset that was not measured for one that was. */
 #if defined(__GNUC__) || defined(__clang__)
 #define WW_MUST_USE __attribute__((warn_unused_result))
 #else
@@ -97,15 +102,18 @@ extern "C" {
     X(WW_BAD_FIELD)
 
 /* Exact lengths in bytes. Each has a getter beside it, for languages that cannot read a macro. */
-#define WW_PARAMETERS_BYTES 32 /* answer of ww_parameters */
-#define WW_RINGS_BYTES 8       /* rings of ww_map and ww_rank, one to a byte */
-#define WW_RANK_BYTES 4        /* answer of ww_rank */
-#define WW_START_BYTES 28      /* answer of ww_start and ww_short_start */
-#define WW_WRITE_BYTES 32      /* answer of ww_write */
-#define WW_READ_BYTES 32       /* answer of ww_read */
-#define WW_LABEL_BYTES 2       /* one label, low byte first */
-#define WW_INFO0_BITS 49       /* bits of an INFO0 sequence, one to a byte, bit 0 first */
-#define WW_INFO0_BYTES 56      /* fields of ww_info0_read and ww_info0_write */
+#define WW_PARAMETERS_BYTES 32     /* answer of ww_parameters */
+#define WW_RINGS_BYTES 8           /* rings of ww_map and ww_rank, one to a byte */
+#define WW_RANK_BYTES 4            /* answer of ww_rank */
+#define WW_START_BYTES 28          /* answer of ww_start and ww_short_start */
+#define WW_WRITE_BYTES 32          /* answer of ww_write */
+#define WW_READ_BYTES 32           /* answer of ww_read */
+#define WW_LABEL_BYTES 2           /* one label, low byte first */
+#define WW_INFO0_BITS 49           /* bits of an INFO0 sequence, one to a byte, bit 0 first */
+#define WW_INFO0_BYTES 56          /* fields of ww_info0_read and ww_info0_write */
+#define WW_INFO1C_BITS 109         /* bits of an INFO1c sequence, one to a byte, bit 0 first */
+#define WW_INFO1C_BYTES 88         /* fields of ww_info1c_write: the report's first bytes */
+#define WW_INFO1C_REPORT_BYTES 100 /* report of ww_info1c_read: the fields, and then the reading */
 
 /* The most that a data frame has, over all settings. The exact lengths are N and 32*P, for the N and P of ww_parameters. */
 #define WW_MAX_BITS 1248        /* bits, one to a byte: s 4, n 13 */
@@ -120,6 +128,9 @@ static inline size_t ww_read_bytes(void) { return WW_READ_BYTES; }
 static inline size_t ww_label_bytes(void) { return WW_LABEL_BYTES; }
 static inline size_t ww_info0_bits(void) { return WW_INFO0_BITS; }
 static inline size_t ww_info0_bytes(void) { return WW_INFO0_BYTES; }
+static inline size_t ww_info1c_bits(void) { return WW_INFO1C_BITS; }
+static inline size_t ww_info1c_bytes(void) { return WW_INFO1C_BYTES; }
+static inline size_t ww_info1c_report_bytes(void) { return WW_INFO1C_REPORT_BYTES; }
 static inline size_t ww_max_bits(void) { return WW_MAX_BITS; }
 static inline size_t ww_max_labels_bytes(void) { return WW_MAX_LABELS_BYTES; }
 
@@ -163,6 +174,24 @@ static inline size_t ww_max_labels_bytes(void) { return WW_MAX_LABELS_BYTES; }
 #define WW_INFO0_ACKNOWLEDGED 13 /* bit 28: 1 acknowledges an INFO0 that was received well, in error recovery */
 #define WW_INFO0_FIELDS 14       /* of them there are so many */
 
+/*
+ * Places of the fields of INFO1c, in the order of Table 15. The call modem sends it: the powers and the blocks are for the
+ * answer modem's sending, MD is the call modem's own. A block stands for each symbol rate, and s is 0 to 5 as in the
+ * settings.
+ */
+#define WW_INFO1C_POWER 0                /* bits 12 to 14: least power reduction, 0 to 7 dB */
+#define WW_INFO1C_EXTRA_POWER 1          /* bits 15 to 17: how much more would be accepted, 0 to 7 dB */
+#define WW_INFO1C_MD 2                   /* bits 18 to 24: length of the signal MD in units of 35 ms, 0 to 127 */
+#define WW_INFO1C_CARRIER(s) (3 + 3 * (s)) /* bit 25 + 9*s: 1 high carrier, 0 low */
+#define WW_INFO1C_FILTER(s) (4 + 3 * (s))  /* bits 26 + 9*s to 29 + 9*s: pre-emphasis filter, 0 to 10 (Tables 3 and 4) */
+#define WW_INFO1C_RATE(s) (5 + 3 * (s))    /* bits 30 + 9*s to 33 + 9*s: highest data rate, the n of the settings, 0 to 14;
+                                              0: this symbol rate can't be used */
+#define WW_INFO1C_COUNT 21               /* bits 79 to 88: frequency offset in steps of 0.02 Hz, signed, -511 to 511; -512:
+                                            it could not be measured */
+#define WW_INFO1C_FIELDS 22              /* of them there are so many */
+#define WW_INFO1C_READING 22             /* in the report, behind the fields: 1 where there is a reading of the offset in
+                                            hertz, 0 where there is none; ww_info1c_hertz takes it out */
+
 /* The numbers of a state, and the settings alone, as the arguments of a call. */
 #define WW_STATE(x) (x)[0], (x)[1], (x)[2], (x)[3], (x)[4], (x)[5], (x)[6]
 #define WW_SETTINGS(x) (x)[0], (x)[1], (x)[2], (x)[3], (x)[4]
@@ -174,18 +203,33 @@ static inline uint32_t ww_number(const uint8_t *answer, size_t place)
     return (uint32_t)from[0] | (uint32_t)from[1] << 8 | (uint32_t)from[2] << 16 | (uint32_t)from[3] << 24;
 }
 
+/* The same where the number may be negative. */
+static inline int32_t ww_signed_number(const uint8_t *answer, size_t place)
+{
+    const uint32_t number = ww_number(answer, place);
+    return number <= 0x7fffffffu ? (int32_t)number : -1 - (int32_t)(0xffffffffu - number);
+}
+
 /*
- * Puts a number at a place of fields that are handed in. One that 32 bits can't hold is put as 2^32 - 1, which no field
- * may be: so nothing that was out of range is in range afterwards.
+ * Puts a number at a place of fields that are handed in. One that 32 bits can't hold is put as 2^31 - 1, which no field
+ * may be, signed or not: so it is not in range afterwards. A number that may be negative is put by ww_put_signed_number;
+ * what ww_number took out of such a place can be put back here as well.
  */
 static inline void ww_put_number(uint8_t *fields, size_t place, uint64_t number)
 {
-    const uint64_t put = number > 0xffffffffu ? 0xffffffffu : number;
+    const uint64_t put = number > 0xffffffffu ? 0x7fffffffu : number;
     uint8_t *to = fields + 4 * place;
     to[0] = (uint8_t)(put & 255);
     to[1] = (uint8_t)(put >> 8 & 255);
     to[2] = (uint8_t)(put >> 16 & 255);
     to[3] = (uint8_t)(put >> 24 & 255);
+}
+
+/* The same where the number may be negative. What is below -2^31 or above 2^31 - 1 is put as 2^31 - 1. */
+static inline void ww_put_signed_number(uint8_t *fields, size_t place, int64_t number)
+{
+    const int fits = number >= -0x7fffffff - 1 && number <= 0x7fffffff;
+    ww_put_number(fields, place, fits ? (uint64_t)number & 0xffffffffu : 0x7fffffffu);
 }
 
 /* The label at a place of the labels. For 4D symbol j of mapping frame i the places are 16*i + 4*j and the three behind it. */
@@ -308,6 +352,48 @@ uint32_t ww_info0_read(const uint8_t *bits, size_t bits_length, uint8_t *fields,
  * Refused: 8 (either length), then 18.
  */
 uint32_t ww_info0_write(const uint8_t *fields, size_t fields_length, uint8_t *bits, size_t bits_length) WW_MUST_USE;
+
+/*
+ * ww_info1c_read: what an INFO1c sequence that was received says (clause 10.1.2.3, Table 15). The bits are only read.
+ *
+ * The note to Table 15 is not tested here, by which a rate above 12 is proposed only where the other end supports 1664
+ * points: that stands in the other end's INFO0. Settings with such a rate need the mark, and are refused with 6 without.
+ *
+ * Owed: bits of WW_INFO1C_BITS, in the order in which they were received, each 0 or 1; report of WW_INFO1C_REPORT_BYTES.
+ * Given: the fields, in the order of the WW_INFO1C_.. places; behind them 1 and the offset in hertz, a double, which is
+ * the count divided once by 50; or, where the count is -512, 0 and eight bytes of 0.
+ * Refused: 8 (either length), then 9 (anywhere in the sequence), then 16 (either fill, or sync), then 17, then 18 (a
+ * filter is above 10, or a rate is 15).
+ */
+uint32_t ww_info1c_read(const uint8_t *bits, size_t bits_length, uint8_t *report, size_t report_length) WW_MUST_USE;
+
+/*
+ * ww_info1c_write: the INFO1c sequence of some fields: ww_info1c_read's inverse. The fields are only read. They are the
+ * report's first bytes, so the count is sent as it is and the reading is not looked at.
+ *
+ * Owed: fields of WW_INFO1C_BYTES; bits of WW_INFO1C_BITS.
+ * Given: the bits, one to a byte, in the order in which they are to be sent: fill, sync, fields, CRC, fill.
+ * Refused: 8 (either length), then 18.
+ */
+uint32_t ww_info1c_write(const uint8_t *fields, size_t fields_length, uint8_t *bits, size_t bits_length) WW_MUST_USE;
+
+/*
+ * The reading of a report that ww_info1c_read gave: 1 where there is one, and it is then put at hertz; 0 where there is
+ * none, and what stands at hertz is then left. So there are no hertz without looking whether there are any.
+ */
+static inline WW_MUST_USE int ww_info1c_hertz(const uint8_t *report, double *hertz)
+{
+    const uint64_t low = ww_number(report, WW_INFO1C_READING + 1), high = ww_number(report, WW_INFO1C_READING + 2);
+    const uint64_t eight_bytes = high << 32 | low;
+    if (ww_number(report, WW_INFO1C_READING) != 1) {
+        return 0;
+    }
+    memcpy(hertz, &eight_bytes, sizeof eight_bytes);
+    return 1;
+}
+
+/* Does not compile where a double has not the eight bytes that ww_info1c_hertz fills. */
+typedef char ww_a_double_has_eight_bytes[sizeof(double) == 8 ? 1 : -1];
 
 #ifdef __cplusplus
 }

@@ -17,8 +17,10 @@
 #include "workerwax.h"
 
 const struct side bench_sides[SIDES] = {
-    {"library", ww_map, ww_rank, ww_write, ww_read, ww_info0_read, ww_info0_write},
-    {"plain", second_map, second_rank, second_write, second_read, second_info0_read, second_info0_write},
+    {"library", ww_map, ww_rank, ww_write, ww_read,
+     {[INFO0] = {ww_info0_read, ww_info0_write}, [INFO1C] = {ww_info1c_read, ww_info1c_write}}},
+    {"plain", second_map, second_rank, second_write, second_read,
+     {[INFO0] = {second_info0_read, second_info0_write}, [INFO1C] = {second_info1c_read, second_info1c_write}}},
 };
 
 #define RINGS(k, m) \
@@ -27,6 +29,9 @@ const struct side bench_sides[SIDES] = {
 #define FRAMES(input, role, s, n, shaping) \
     {"write", input, frames_draw, frames_write, frames_agree, {role, s, n, shaping, 1}}, \
     {"read", input, frames_draw, frames_read, frames_agree, {role, s, n, shaping, 1}}
+#define SEQUENCE(name, which) \
+    {name "_read", "random fields", sequences_draw, sequences_read, sequences_agree, {which}}, \
+    {name "_write", "random fields", sequences_draw, sequences_write, sequences_agree, {which}}
 
 static const struct row rows[] = {
     RINGS(31, 18),
@@ -39,8 +44,8 @@ static const struct row rows[] = {
     FRAMES("s4 n12 minimum", 0, 4, 12, 0),
     FRAMES("s3 n6 minimum", 0, 3, 6, 0),
     FRAMES("s0 n1 minimum", 0, 0, 1, 0), /* no S, so little to do: what a call costs at least */
-    {"info0_read", "random fields", info0_draw, info0_read, info0_agree, {0}},
-    {"info0_write", "random fields", info0_draw, info0_write, info0_agree, {0}},
+    SEQUENCE("info0", INFO0),
+    SEQUENCE("info1c", INFO1C),
 };
 
 /*

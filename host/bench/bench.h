@@ -21,16 +21,19 @@ typedef uint32_t rank_call(uint64_t k, uint64_t m, const uint8_t *rings, size_t 
 typedef uint32_t data_call(uint64_t role, uint64_t s, uint64_t n, uint64_t shaping, uint64_t mark, uint64_t reg, uint64_t z,
                            const uint8_t *from, size_t from_length, uint8_t *to, size_t to_length,
                            uint8_t *answer, size_t answer_length);
-typedef uint32_t info0_call(const uint8_t *from, size_t from_length, uint8_t *to, size_t to_length);
+typedef uint32_t sequence_call(const uint8_t *from, size_t from_length, uint8_t *to, size_t to_length);
 
 enum { LIBRARY, PLAIN, SIDES };
+enum { INFO0, INFO1C, SEQUENCES };
 
 struct side {
     const char *name;
     map_call *map;
     rank_call *rank;
     data_call *write, *read;
-    info0_call *info0_read, *info0_write;
+    struct {
+        sequence_call *read, *write;
+    } sequence[SEQUENCES];
 };
 
 extern const struct side bench_sides[SIDES];
@@ -42,7 +45,7 @@ struct row {
     void (*draw)(const struct row *row);
     int (*run)(const struct row *row, int side); /* whether every call was done */
     int (*agree)(const struct row *row);
-    uint64_t numbers[WW_SETTINGS_NUMBERS]; /* K and M, or the settings, or none */
+    uint64_t numbers[WW_SETTINGS_NUMBERS]; /* K and M, or the settings, or which sequence */
 };
 
 /* bench_rings.c */
@@ -57,11 +60,11 @@ int frames_write(const struct row *row, int side);
 int frames_read(const struct row *row, int side);
 int frames_agree(const struct row *row);
 
-/* bench_info0.c */
-void info0_draw(const struct row *row);
-int info0_read(const struct row *row, int side);
-int info0_write(const struct row *row, int side);
-int info0_agree(const struct row *row);
+/* bench_sequences.c */
+void sequences_draw(const struct row *row);
+int sequences_read(const struct row *row, int side);
+int sequences_write(const struct row *row, int side);
+int sequences_agree(const struct row *row);
 
 /* bench_time.c: nanoseconds for one call, of a side each: the median over many rounds. Whether every call was done. */
 int bench_time(const struct row *row, double nanoseconds[SIDES]);

@@ -33,7 +33,7 @@ union slices_of_calls {
 
 enum { MOST_NUMBERS = sizeof(union numbers_of_calls) - 1, MOST_SLICES = sizeof(union slices_of_calls) - 1 };
 
-/* The places of the slices of writers and readers, INFO0's too, and of the ranker. The others have one slice, at 0. */
+/* The places of the slices of writers and readers, of sequences too, and of the ranker. The others have one slice, at 0. */
 enum { FROM = 0, TO = 1, ANSWER = 2, RANK_ANSWER = 1 };
 
 struct slice {

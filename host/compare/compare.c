@@ -25,29 +25,60 @@ static struct group groups[] = {
     {compare_damage, {"damaged bits and labels", 0, 187973}},
     {compare_lengths, {"wrong lengths and wide numbers, writer and reader", 0, 57720}},
     {compare_ties, {"several faults at once", 0, 60000}},
-    {compare_info0, {"INFO0 there and back: worked sequences, all 131,072 bodies, fields at their limits", 0, 280160}},
-    {compare_info0_damage, {"INFO0 with bits turned, in bursts too, and with bytes that are no bits", 0, 59380}},
-    {compare_info0_lengths, {"INFO0 with wrong lengths", 0, 1316}},
-    {compare_info0_ties, {"INFO0 with several faults at once", 0, 20000}},
+    {compare_info0, {"INFO0, all 131,072 bodies there and back", 0, 262144}},
+    {compare_info1c, {"INFO1c, all 1,024 counts there and back, and counts around them", 0, 23304}},
 };
+
+struct sequence_group {
+    void (*run)(struct tally *tally, const struct kind *kind);
+    const struct kind *kind;
+    struct tally tally;
+};
+
+static struct sequence_group sequence_groups[] = {
+    {compare_sequences, &info0, {"INFO0, worked sequences, fields in and out of range, random ones", 0, 37032}},
+    {compare_sequences_damage, &info0, {"INFO0 with bits turned, in bursts too, and bytes that are no bits", 0, 92148}},
+    {compare_sequences_lengths, &info0, {"INFO0 with wrong lengths", 0, 1316}},
+    {compare_sequences_ties, &info0, {"INFO0 with several faults at once", 0, 20000}},
+    {compare_sequences, &info1c, {"INFO1c, worked sequences, fields in and out of range, random ones", 0, 139639}},
+    {compare_sequences_damage, &info1c, {"INFO1c with bits turned, in bursts too, and bytes that are no bits", 0, 226668}},
+    {compare_sequences_lengths, &info1c, {"INFO1c with wrong lengths", 0, 2494}},
+    {compare_sequences_ties, &info1c, {"INFO1c with several faults at once", 0, 20000}},
+};
+
+#define COUNT_OF(groups) (sizeof groups / sizeof groups[0])
+
+static uint64_t all;
+
+/* Whether the group made as many comparisons as it states. */
+static int report(const struct tally *tally)
+{
+    printf("%8" PRIu64 "  %s\n", tally->made, tally->group);
+    fflush(stdout);
+    all += tally->made;
+    if (tally->made < tally->stated) {
+        fprintf(stderr, "compare: this group states %" PRIu64 " comparisons\n", tally->stated);
+        return 0;
+    }
+    return 1;
+}
 
 int main(void)
 {
-    uint64_t all = 0;
     int good = 1;
     size_t i;
     random_seed(34);
     calls_open();
-    for (i = 0; i < sizeof groups / sizeof groups[0]; i++) {
-        struct tally *tally = &groups[i].tally;
-        groups[i].run(tally);
-        printf("%8" PRIu64 "  %s\n", tally->made, tally->group);
-        fflush(stdout);
-        if (tally->made < tally->stated) {
-            fprintf(stderr, "compare: this group states %" PRIu64 " comparisons\n", tally->stated);
-            good = 0;
-        }
-        all += tally->made;
+    for (i = 0; i < COUNT_OF(sequence_groups); i++) {
+        sequence_check(sequence_groups[i].kind);
+    }
+    for (i = 0; i < COUNT_OF(groups); i++) {
+        groups[i].run(&groups[i].tally);
+        good &= report(&groups[i].tally);
+    }
+    for (i = 0; i < COUNT_OF(sequence_groups); i++) {
+        sequence_groups[i].run(&sequence_groups[i].tally, sequence_groups[i].kind);
+        good &= report(&sequence_groups[i].tally);
     }
     printf("%8" PRIu64 "  in all, each with its buffers' ends and their starts against a guard\n", all);
     printf("how often each entry gave each number:\n");

@@ -1,25 +1,29 @@
 /*
- * compare_info0.c: INFO0 sequences written and read.
+ * compare_info0.c: what INFO0 is (Table 14), and what is compared of no other sequence: all its bodies, and the CRC by what
+ * others know of it.
  *
  * The worked sequences have their answers written out here. Their CRCs were worked out apart from both programs, by a
  * shift register as clause 10.1.2.3.2 has it.
  */
 #include <stdio.h>
 #include <stdlib.h>
-#include <string.h>
 
 #include "compare.h"
-#include "info0.h"
-#include "random.h"
 #include "second.h"
+#include "sequences.h"
 
-#define BASES 8
+#define BODY 12 /* the first of the fields' bits */
+#define BODY_BITS 17
 #define ACCEPTED 73728 /* bodies: twelve fields of a bit, six differences, three clocks */
 
-struct worked {
-    const char *sequence;
-    uint32_t due;
-    uint64_t fields[WW_INFO0_FIELDS];
+static const struct field fields[WW_INFO0_FIELDS] = {
+    [WW_INFO0_SUPPORT_2743] = {12, 1, 0, 1}, [WW_INFO0_SUPPORT_2800] = {13, 1, 0, 1},
+    [WW_INFO0_SUPPORT_3429] = {14, 1, 0, 1}, [WW_INFO0_LOW_3000] = {15, 1, 0, 1},
+    [WW_INFO0_HIGH_3000] = {16, 1, 0, 1},    [WW_INFO0_LOW_3200] = {17, 1, 0, 1},
+    [WW_INFO0_HIGH_3200] = {18, 1, 0, 1},    [WW_INFO0_ALLOWED_3429] = {19, 1, 0, 1},
+    [WW_INFO0_REDUCTION] = {20, 1, 0, 1},    [WW_INFO0_DIFFERENCE] = {21, 3, 0, 5},
+    [WW_INFO0_CME] = {24, 1, 0, 1},          [WW_INFO0_MARK] = {25, 1, 0, 1},
+    [WW_INFO0_CLOCK] = {26, 2, 0, 2},        [WW_INFO0_ACKNOWLEDGED] = {28, 1, 0, 1},
 };
 
 static const struct worked worked[] = {
@@ -48,6 +52,20 @@ static const struct worked worked[] = {
     {"1111" "01110010" "00000000001100110" "0011011001111110" "1111", WW_BAD_FIELD, {0}}, /* difference 6 and clock 3 */
 };
 
+const struct kind info0 = {
+    .name = "INFO0",
+    .read = INFO0_READ,
+    .write = INFO0_WRITE,
+    .letters = "1111" "01110010" "................." "cccccccccccccccc" "1111",
+    .bits = WW_INFO0_BITS,
+    .field = fields,
+    .fields = WW_INFO0_FIELDS,
+    .fields_bytes = WW_INFO0_BYTES,
+    .answer_bytes = WW_INFO0_BYTES,
+    .worked = worked,
+    .worked_count = sizeof worked / sizeof worked[0],
+};
+
 /* This CRC is known to others by what it gives for these nine bytes, highest bit first. */
 static void crc_is_the_known_one(void)
 {
@@ -63,95 +81,27 @@ static void crc_is_the_known_one(void)
     }
 }
 
-/* Fields and bits that belong together, where the fields are in range: what is written can be read, and the other way round. */
-static void there_and_back(struct tally *tally, const struct info0 *info0, uint32_t due)
-{
-    const struct call write = info0_write_call(info0->fields), read = info0_read_call(info0->bits);
-    if (compare(tally, &write, due) == WW_DONE) {
-        demand(memcmp(compared(TO), info0->bits, sizeof info0->bits) == 0, "not the bits due");
-    }
-    if (compare(tally, &read, due) == WW_DONE) {
-        demand(memcmp(compared(TO), info0->fields, sizeof info0->fields) == 0, "not the fields due");
-    }
-}
-
-static void worked_sequences(struct tally *tally)
-{
-    struct info0 info0;
-    size_t i, k;
-    for (i = 0; i < sizeof worked / sizeof worked[0]; i++) {
-        for (k = 0; k < WW_INFO0_BITS; k++) {
-            info0.bits[k] = (uint8_t)(worked[i].sequence[k] - '0');
-        }
-        for (k = 0; k < WW_INFO0_FIELDS; k++) {
-            ww_put_number(info0.fields, k, worked[i].fields[k]);
-        }
-        if (worked[i].due == WW_DONE) {
-            there_and_back(tally, &info0, WW_DONE);
-        } else {
-            const struct call read = info0_read_call(info0.bits);
-            compare(tally, &read, worked[i].due);
-        }
-    }
-}
-
+/* A body is bits 12 to 28. */
 static void all_bodies(struct tally *tally)
 {
-    struct info0 info0;
+    struct sequence sequence = {&info0, {0}, {0}};
     uint64_t body, accepted = 0;
-    for (body = 0; body < INFO0_BODIES; body++) {
+    size_t i;
+    for (body = 0; body < (uint64_t)1 << BODY_BITS; body++) {
         uint32_t due;
-        info0_of_body(&info0, body);
-        due = info0_due(info0.fields);
-        there_and_back(tally, &info0, due);
+        for (i = 0; i < BODY_BITS; i++) {
+            sequence.bits[BODY + i] = (uint8_t)(body >> i & 1);
+        }
+        sequence_seal(&sequence);
+        due = sequence_due(&sequence);
+        there_and_back(tally, &sequence, due);
         accepted += due == WW_DONE;
     }
     demand(accepted == ACCEPTED, "not as many bodies are accepted as the table permits");
 }
 
-/* Another number in one field, to be written. What is done is read back. */
-static void try_number(struct tally *tally, const struct info0 *base, size_t place, uint64_t number)
-{
-    struct info0 changed = *base;
-    struct call write, read;
-    ww_put_number(changed.fields, place, number);
-    write = info0_write_call(changed.fields);
-    if (compare(tally, &write, number > info0_fields[place].highest ? WW_BAD_FIELD : WW_DONE) == WW_DONE) {
-        memcpy(changed.bits, compared(TO), sizeof changed.bits);
-        read = info0_read_call(changed.bits);
-        compare(tally, &read, WW_DONE);
-        demand(memcmp(compared(TO), changed.fields, sizeof changed.fields) == 0, "the fields read are not the fields written");
-    }
-}
-
-/*
- * Every field at its limits, past them by one bit, and far past them with a permitted number in the low bits. A number of
- * more than 32 bits can't be handed in, and ww_put_number must not turn it into one that is permitted.
- */
-static void fields_at_limits(struct tally *tally)
-{
-    struct info0 base;
-    size_t i, place, bit;
-    for (i = 0; i < BASES * WW_INFO0_FIELDS; i++) {
-        uint64_t permitted;
-        place = i % WW_INFO0_FIELDS;
-        info0_of_body(&base, random_body());
-        try_number(tally, &base, place, info0_fields[place].highest + 1);
-        try_number(tally, &base, place, 0xffffffff);
-        for (permitted = 0; permitted <= info0_fields[place].highest; permitted++) {
-            try_number(tally, &base, place, 0xffffff00 + permitted);
-            try_number(tally, &base, place, 0x01010100 + permitted);
-            for (bit = 0; bit < 64; bit++) {
-                try_number(tally, &base, place, permitted ^ (uint64_t)1 << bit);
-            }
-        }
-    }
-}
-
 void compare_info0(struct tally *tally)
 {
     crc_is_the_known_one();
-    worked_sequences(tally);
     all_bodies(tally);
-    fields_at_limits(tally);
 }

@@ -32,6 +32,8 @@ uint32_t second_read(uint64_t role, uint64_t s, uint64_t n, uint64_t shaping, ui
                      uint8_t *answer, size_t answer_length);
 uint32_t second_info0_read(const uint8_t *bits, size_t bits_length, uint8_t *fields, size_t fields_length);
 uint32_t second_info0_write(const uint8_t *fields, size_t fields_length, uint8_t *bits, size_t bits_length);
+uint32_t second_info1c_read(const uint8_t *bits, size_t bits_length, uint8_t *report, size_t report_length);
+uint32_t second_info1c_write(const uint8_t *fields, size_t fields_length, uint8_t *bits, size_t bits_length);
 
 /*
  * Below the calls, for tests that need what no call gives. They test nothing: m is 1 to 18, a number is below

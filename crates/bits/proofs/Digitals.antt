@@ -50,6 +50,14 @@ pub value-take-below : (n : ℕ) (bits : List ℕ) → Bits bits → value (take
 value-take-below n bits h =
     lt-of-lt-of-le (value-below (take n bits) (bits-take n bits h)) (pow-mono (omega (arith, length-take n bits)))
 
+-- bits put behind others weigh 2^n, where those are n
+pub value-append : (a b : List ℕ) → value (a ++ b) ≡ value a + 2 ^ length a * value b
+unfolding value
+value-append [] b = omega arith
+value-append (bit ∷ a) b =
+    let rest = value-append a b in
+    rw pow-suc (omega arith)
+
 -- a number is its n lowest bits where it is below 2^n
 pub value-digits : (n x : ℕ) → x < 2 ^ n → value (digits n x) ≡ x
 unfolding value digits

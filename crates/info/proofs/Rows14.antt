@@ -1,28 +1,26 @@
 -- The picture and the table of INFO0 are V.34's Table 14: its sequence is that of the table printed bit by bit. So it is said exactly which
 -- sequences are read with 0, and which fields are written with 0. Assumes nothing.
 use mathlib.Core.Bool.{true}
-use mathlib.Core.List.{List, _∷_, _++_, append-assoc}
+use mathlib.Core.List.{List, _∷_, _++_}
 use mathlib.Core.Logic.{_↔_}
-use mathlib.Core.Path.{_≡_, refl, sym, ap, ap₂, _∙_}
-use Prim.Native.Nat.{ℕ, _+_, _%_, _≤_, _<_}
+use mathlib.Core.Path.{_≡_, refl, ap, ap₂}
+use Prim.Native.Nat.{ℕ, _+_, _≤_, _<_}
 use native.Mathlib.Omega.{arith}
-use lib.ListN.{length, getD, length-append}
-use borrow.Author.Tests.{le-leb}
+use lib.ListN.{length, getD}
 use Rattle.laws.proofs.Bools.{and-both}
 use Rattle.bits.specs.Digits.{digits}
-use Rattle.sequences.specs.Register.{crc}
-use Rattle.sequences.specs.Picture.{free, around}
-use Rattle.sequences.specs.Table.{upTo, lies, fieldsIn, fieldBits, inRange, isLaid, bitCount}
-use Rattle.sequences.specs.Sequence.{isWhole, sealed, fieldsRefusal, sequenceRefusal, sequenceOf}
+use Rattle.sequences.specs.Picture.{free}
+use Rattle.sequences.specs.Table.{upTo, fieldsIn, fieldBits, inRange, isLaid, bitCount}
+use Rattle.sequences.specs.Sequence.{isWhole, fieldsRefusal, sequenceRefusal, sequenceOf}
 use Rattle.sequences.proofs.Listed.{one-by-one}
-use Rattle.sequences.proofs.Registers.{length-crc}
-use Rattle.sequences.proofs.Sequences.{reads, writes, written-by, written-is-read, written-of-read}
-use Rattle.sequences.proofs.Tables.{length-fieldsIn, range-at}
+use Rattle.sequences.proofs.Named.{Printed, read-as-printed}
+use Rattle.sequences.proofs.Named as named
+use Rattle.sequences.proofs.Tables.{range-at, lies-up-to, bit-is-digit}
 use Rattle.info.specs.Frame.{fill, sync, fixed, places, framed}
 use Rattle.info.specs.Info0.{info0, numbersOf}
 use Rattle.info.specs.Table14.{Sayable, said, sequence14}
 use Rattle.info.specs.declared.info0.Info0.{Info0}
-use Rattle.info.proofs.Frames.{around-framed}
+use Rattle.info.proofs.Frames.{sent-as-printed}
 
 pub whole0 : isWhole info0 ≡ true
 unfolding isWhole isLaid free bitCount info0 framed fixed places fill sync
@@ -50,13 +48,6 @@ fieldsOf l =
 
 pub numbersOf-fieldsOf : (l : List ℕ) → length l ≡ 14 → numbersOf (fieldsOf l) ≡ l
 numbersOf-fieldsOf l e = one-by-one 14 l e
-
--- a number that its field may be, and one bit
-lie : (first width most x : ℕ) → x ≤ most → lies (upTo first width most) x ≡ true
-lie first width most x h = and-both _ _ (le-leb 0 x (omega arith)) (le-leb x most h)
-
-bit : (x : ℕ) → x ≤ 1 → x % 2 ≡ x
-bit x h = omega arith
 
 module _ (f : Info0) where
   -- the ranges of the table are those of the names
@@ -87,81 +78,67 @@ module _ (f : Info0) where
     pub in-range : inRange (info0 .table) (numbersOf f) ≡ true
     unfolding inRange info0
     in-range =
-        and-both _ _ (lie 12 1 1 (f .support_2743) (h .support2743))
-        (and-both _ _ (lie 13 1 1 (f .support_2800) (h .support2800))
-        (and-both _ _ (lie 14 1 1 (f .support_3429) (h .support3429))
-        (and-both _ _ (lie 15 1 1 (f .low_3000) (h .low3000))
-        (and-both _ _ (lie 16 1 1 (f .high_3000) (h .high3000))
-        (and-both _ _ (lie 17 1 1 (f .low_3200) (h .low3200))
-        (and-both _ _ (lie 18 1 1 (f .high_3200) (h .high3200))
-        (and-both _ _ (lie 19 1 1 (f .allowed_3429) (h .allowed3429))
-        (and-both _ _ (lie 20 1 1 (f .reduction) (h .reduction))
-        (and-both _ _ (lie 21 3 5 (f .difference) (h .difference))
-        (and-both _ _ (lie 24 1 1 (f .cme) (h .cme))
-        (and-both _ _ (lie 25 1 1 (f .mark) (h .mark))
-        (and-both _ _ (lie 26 2 2 (f .clock) (h .clock))
-        (and-both _ _ (lie 28 1 1 (f .acknowledged) (h .acknowledged)) refl)))))))))))))
+        and-both _ _ (lies-up-to 12 1 1 (f .support_2743) (h .support2743))
+        (and-both _ _ (lies-up-to 13 1 1 (f .support_2800) (h .support2800))
+        (and-both _ _ (lies-up-to 14 1 1 (f .support_3429) (h .support3429))
+        (and-both _ _ (lies-up-to 15 1 1 (f .low_3000) (h .low3000))
+        (and-both _ _ (lies-up-to 16 1 1 (f .high_3000) (h .high3000))
+        (and-both _ _ (lies-up-to 17 1 1 (f .low_3200) (h .low3200))
+        (and-both _ _ (lies-up-to 18 1 1 (f .high_3200) (h .high3200))
+        (and-both _ _ (lies-up-to 19 1 1 (f .allowed_3429) (h .allowed3429))
+        (and-both _ _ (lies-up-to 20 1 1 (f .reduction) (h .reduction))
+        (and-both _ _ (lies-up-to 21 3 5 (f .difference) (h .difference))
+        (and-both _ _ (lies-up-to 24 1 1 (f .cme) (h .cme))
+        (and-both _ _ (lies-up-to 25 1 1 (f .mark) (h .mark))
+        (and-both _ _ (lies-up-to 26 2 2 (f .clock) (h .clock))
+        (and-both _ _ (lies-up-to 28 1 1 (f .acknowledged) (h .acknowledged)) refl)))))))))))))
 
     -- bits 12 to 28
     bits-said : fieldBits (info0 .table) (numbersOf f) ≡ said f
     unfolding fieldBits digits info0
     bits-said =
-        ap₂ _∷_ (bit (f .support_2743) (h .support2743))
-        (ap₂ _∷_ (bit (f .support_2800) (h .support2800))
-        (ap₂ _∷_ (bit (f .support_3429) (h .support3429))
-        (ap₂ _∷_ (bit (f .low_3000) (h .low3000))
-        (ap₂ _∷_ (bit (f .high_3000) (h .high3000))
-        (ap₂ _∷_ (bit (f .low_3200) (h .low3200))
-        (ap₂ _∷_ (bit (f .high_3200) (h .high3200))
-        (ap₂ _∷_ (bit (f .allowed_3429) (h .allowed3429))
-        (ap₂ _∷_ (bit (f .reduction) (h .reduction))
+        ap₂ _∷_ (bit-is-digit (f .support_2743) (h .support2743))
+        (ap₂ _∷_ (bit-is-digit (f .support_2800) (h .support2800))
+        (ap₂ _∷_ (bit-is-digit (f .support_3429) (h .support3429))
+        (ap₂ _∷_ (bit-is-digit (f .low_3000) (h .low3000))
+        (ap₂ _∷_ (bit-is-digit (f .high_3000) (h .high3000))
+        (ap₂ _∷_ (bit-is-digit (f .low_3200) (h .low3200))
+        (ap₂ _∷_ (bit-is-digit (f .high_3200) (h .high3200))
+        (ap₂ _∷_ (bit-is-digit (f .allowed_3429) (h .allowed3429))
+        (ap₂ _∷_ (bit-is-digit (f .reduction) (h .reduction))
         (ap (λ (l : List ℕ). digits 3 (f .difference) ++ l)
-        (ap₂ _∷_ (bit (f .cme) (h .cme))
-        (ap₂ _∷_ (bit (f .mark) (h .mark))
-        (ap (λ (l : List ℕ). digits 2 (f .clock) ++ l) (ap₂ _∷_ (bit (f .acknowledged) (h .acknowledged)) refl)))))))))))))
-
-    length-said : length (said f ++ crc (said f)) ≡ 17 + 16
-    unfolding digits
-    length-said = length-append (said f) (crc (said f)) ∙ ap (λ (n : ℕ). 17 + n) (length-crc (said f))
+        (ap₂ _∷_ (bit-is-digit (f .cme) (h .cme))
+        (ap₂ _∷_ (bit-is-digit (f .mark) (h .mark))
+        (ap (λ (l : List ℕ). digits 2 (f .clock) ++ l) (ap₂ _∷_ (bit-is-digit (f .acknowledged) (h .acknowledged)) refl)))))))))))))
 
     pub sequence-is-14 : sequenceOf info0 (numbersOf f) ≡ sequence14 f
-    unfolding sequenceOf sealed info0
-    sequence-is-14 =
-        ap (λ (d : List ℕ). around (framed 17) (d ++ crc d)) bits-said
-        ∙ (around-framed 17 (said f ++ crc (said f)) length-said
-        ∙ ap (λ (l : List ℕ). fill ++ (sync ++ l)) (append-assoc (said f) (crc (said f)) fill))
+    unfolding info0 bitCount
+    sequence-is-14 = sent-as-printed 17 (info0 .table) (numbersOf f) (said f) refl bits-said
 
--- what is read with 0 are fields that may be, in their sequence
+-- so INFO0 is as Table 14 prints it
+pub printed14 : Printed info0 numbersOf fieldsOf Sayable sequence14
+unfolding info0
+printed14 =
+    record {
+      whole = whole0;
+      count = λ f. refl;
+      numbers-back = λ l e r. one-by-one 14 l e;
+      fields-back = λ f h. refl;
+      sayable = sayable;
+      ranged = in-range;
+      spelt = sequence-is-14;
+    }
+
 pub read-as-14 :
     (bits : List ℕ) (f : Info0) → fieldsRefusal info0 bits ≡ 0 → numbersOf f ≡ fieldsIn (info0 .table) bits
     → Sayable f × (bits ≡ sequence14 f)
-read-as-14 bits f e same =
-    let r = reads info0 bits e in
-    let h = sayable f (ap (inRange (info0 .table)) same ∙ r .1 .ranges) in
-    (h, sym (written-of-read info0 whole0 bits (r .0) (r .1)) ∙ (ap (sequenceOf info0) (sym same) ∙ sequence-is-14 f h))
+read-as-14 = read-as-printed info0 numbersOf fieldsOf Sayable sequence14 printed14
 
 -- exactly which sequences are read with 0
 pub reads-exactly : (bits : List ℕ) → (fieldsRefusal info0 bits ≡ 0) ↔ ((f : Info0) × Sayable f × (bits ≡ sequence14 f))
-unfolding info0
-reads-exactly bits = (there, back)
-  where
-    there : fieldsRefusal info0 bits ≡ 0 → (f : Info0) × Sayable f × (bits ≡ sequence14 f)
-    there e =
-        let numbers = fieldsIn (info0 .table) bits in
-        let same = numbersOf-fieldsOf numbers (length-fieldsIn (info0 .table) bits) in
-        let read = read-as-14 bits (fieldsOf numbers) e same in
-        (fieldsOf numbers, read .0, read .1)
-
-    back : (f : Info0) × Sayable f × (bits ≡ sequence14 f) → fieldsRefusal info0 bits ≡ 0
-    back p =
-        let f = p .0 in
-        let h = p .1 in
-        ap (fieldsRefusal info0) (p .2 ∙ sym (sequence-is-14 f h)) ∙ written-is-read info0 whole0 (numbersOf f) refl (in-range f h)
+reads-exactly = named.reads-exactly info0 numbersOf fieldsOf Sayable sequence14 printed14
 
 -- exactly which fields are written with 0
 pub writes-exactly : (f : Info0) (lent : ℕ) → (sequenceRefusal info0 (numbersOf f) lent ≡ 0) ↔ (Sayable f × (lent ≡ 49))
 unfolding info0 framed fixed places fill sync
-writes-exactly f lent = (
-  λ e. let w = writes info0 (numbersOf f) lent e in (sayable f (w .1), w .0),
-  λ p. written-by info0 (numbersOf f) lent (p .1) (in-range f (p .0)),
-)
+writes-exactly = named.writes-exactly info0 numbersOf fieldsOf Sayable sequence14 printed14

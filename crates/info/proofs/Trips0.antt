@@ -1,15 +1,17 @@
 -- INFO0 there and back, by its names: reading what was written and writing what was read are the identity, and at most one answer fits.
 -- Assumes nothing.
 use mathlib.Core.List.{List}
-use mathlib.Core.Path.{_≡_, refl, ap}
+use mathlib.Core.Path.{_≡_, ap, _∙_}
 use Prim.Native.Nat.{ℕ}
 use lib.ListN.{length}
 use Rattle.sequences.specs.Sequence.{FieldsAnswer, SequenceAnswer}
-use Rattle.sequences.proofs.Trips.{fields-once, sequence-once, read-what-was-written, write-what-was-read}
+use Rattle.sequences.proofs.Named.{read-back}
+use Rattle.sequences.proofs.Trips.{fields-once, sequence-once, write-what-was-read}
 use Rattle.info.specs.Frame.{fill, sync, fixed, places, framed}
 use Rattle.info.specs.Info0.{info0, numbersOf}
 use Rattle.info.specs.declared.info0.Info0.{Info0}
-use Rattle.info.proofs.Rows14.{whole0, fieldsOf}
+use Rattle.info.specs.Table14.{Sayable, sequence14}
+use Rattle.info.proofs.Rows14.{whole0, fieldsOf, printed14}
 
 -- fields of the same numbers are the same
 same-fields : (f g : Info0) → numbersOf f ≡ numbersOf g → f ≡ g
@@ -18,10 +20,9 @@ same-fields f g e = ap fieldsOf e
 pub info0-read-back :
     (f : Info0) (lent : List ℕ) (r : ℕ) (bits : List ℕ) (r′ : ℕ) (g : Info0)
     → SequenceAnswer info0 (numbersOf f) lent r bits → r ≡ 0 → FieldsAnswer info0 bits r′ (numbersOf g) → (r′ ≡ 0) × (g ≡ f)
-unfolding info0
 info0-read-back f lent r bits r′ g w z a =
-    let both = read-what-was-written info0 whole0 (numbersOf f) lent r bits r′ (numbersOf g) refl w z a in
-    (both .0, same-fields g f (both .1))
+    let both = read-back info0 numbersOf fieldsOf Sayable sequence14 printed14 bits f lent r w z in
+    (a .number ∙ both .0, ap fieldsOf (a .fields) ∙ both .1)
 
 pub info0-written-back :
     (bits : List ℕ) (r : ℕ) (f : Info0) (lent : List ℕ) (r′ : ℕ) (after : List ℕ) → length lent ≡ 49

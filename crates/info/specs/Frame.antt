@@ -7,12 +7,17 @@
 use mathlib.Core.List.{List, [], _∷_, _++_}
 use Prim.Native.Nat.{ℕ, _+_}
 use lib.ListN.{replicate}
+use Rattle.sequences.specs.Register.{crc}
 
 unfoldable pub fill : List ℕ
 fill = 1 ∷ 1 ∷ 1 ∷ 1 ∷ []
 
 unfoldable pub sync : List ℕ
 sync = 0 ∷ 1 ∷ 1 ∷ 1 ∷ 0 ∷ 0 ∷ 1 ∷ 0 ∷ []
+
+-- the sequence whose bits of fields are these
+abbrev pub sent : List ℕ → List ℕ
+sent said = fill ++ (sync ++ (said ++ (crc said ++ fill)))
 
 -- the picture of fixed bits, and of n free places, in the characters of Picture: 48 and 49, and 46
 unfoldable pub fixed : List ℕ → List ℕ

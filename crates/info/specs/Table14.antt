@@ -10,8 +10,7 @@
 use mathlib.Core.List.{List, [], _∷_, _++_}
 use Prim.Native.Nat.{ℕ, _≤_}
 use Rattle.bits.specs.Digits.{digits}
-use Rattle.sequences.specs.Register.{crc}
-use Rattle.info.specs.Frame.{fill, sync}
+use Rattle.info.specs.Frame.{sent}
 use Rattle.info.specs.declared.info0.Info0.{Info0}
 
 -- what the fields may be
@@ -47,4 +46,4 @@ said f =
 
 -- all 49
 abbrev pub sequence14 : Info0 → List ℕ
-sequence14 f = fill ++ (sync ++ (said f ++ (crc (said f) ++ fill)))
+sequence14 f = sent (said f)

@@ -1,9 +1,9 @@
 // The check of parts of the nine bytes "123456789", of which 29B1 is known for the whole.
 use crate::show::say;
-use crate::show::say_check;
+use crate::show::say_hex;
+use crate::show::spaced;
 use crate::show::text;
-use bits::all_bits;
-use fields::check::crc_of;
+use spelling::check::tested_crc;
 
 // Bit i of nine bytes, the highest of each byte first.
 fn bit_of(bytes: &[u8; 9], i: usize) -> u8 {
@@ -21,24 +21,12 @@ fn bits_of(bytes: &[u8; 9]) -> [u8; 72] {
     bits
 }
 
-// The check of the bits from `from` to before `to`, after a test of what `crc_of` asks; 65536, which is no check, where the test fails.
-pub fn tested_crc(bits: &[u8], from: usize, to: usize) -> u64 {
-    if from > to {
-        return 65536;
-    }
-    if to > bits.len() {
-        return 65536;
-    }
-    if !all_bits(bits) {
-        return 65536;
-    }
-    crc_of(bits, from, to)
-}
-
 fn part(bits: &[u8; 72], from: usize, to: usize) {
     say(b"bits ", from as u64);
     say(b" to ", to as u64);
-    say_check(b": ", tested_crc(bits, from, to));
+    let check = tested_crc(bits, from, to);
+    say_hex(b": ", check, 4);
+    spaced(check);
     text(b"\n");
 }
 

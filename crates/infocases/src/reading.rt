@@ -1,12 +1,16 @@
 // One line for each sequence that is read: its bits, how many are lent, the refusal number, and the fields in the order of V.34's Table 14.
 ghost use Prim.Native.Nat.{_≤_};
 use crate::show::digits;
-use crate::show::fields;
+use crate::show::numbers;
 use crate::show::outcome;
 use crate::show::text;
 use info::info0::Info0;
 use info::info0::Info0Read;
 use info::info0::read;
+use spelling::spell::spell;
+
+// Where the parts of a sequence begin: fill, sync, bits 12 to 28, their check, fill, and what stands behind.
+pub const STARTS: [usize; 6] = [0, 4, 12, 29, 45, 49];
 
 // Each by its name, so that a name which stands for another bit is seen.
 fn named(f: Info0) -> [u64; 14] {
@@ -28,17 +32,10 @@ fn named(f: Info0) -> [u64; 14] {
     ]
 }
 
-// The 49 binary digits of a number, in the order in which they are written, and two ones behind them. Sequences come as numbers since a
-// text that is lent costs the check of its function far more.
+// The 49 binary digits of a number, and two ones behind them.
 fn spelled(sequence: u64) -> [u8; 51] {
     let mut bits = [1u8; 51];
-    let mut rest = sequence;
-    let mut i = 49;
-    while i > 0 {
-        i -= 1;
-        bits[i] = (rest % 2) as u8;
-        rest = rest / 2;
-    }
+    spell(sequence, &mut bits[..49]);
     bits
 }
 
@@ -54,10 +51,10 @@ fn shown(bits: [u8; 51], lent: usize)
 {
     let answer = read_front(bits, lent);
     text(b"read");
-    digits(&bits);
+    digits(&bits, &STARTS);
     outcome(lent, answer.refusal);
     let found = answer.fields;
-    fields(&named(found));
+    numbers(&named(found));
     text(b"\n");
 }
 

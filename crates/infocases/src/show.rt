@@ -16,11 +16,10 @@ pub fn spaced(n: u64) {
     say(b" ", n);
 }
 
-// Sixteen bits as four hexadecimal digits behind the words, and in decimal.
-pub fn say_check(words: &[u8], n: u64) {
+// A number behind the words, as so many hexadecimal digits.
+pub fn say_hex(words: &[u8], n: u64, places: usize) {
     text(words);
-    io::print_hex(STDOUT_FILENO, n, 4);
-    spaced(n);
+    io::print_hex(STDOUT_FILENO, n, places);
 }
 
 // How many bytes were lent, and the refusal number.
@@ -30,32 +29,36 @@ pub fn outcome(lent: usize, refusal: u64) {
     text(b",");
 }
 
-// Fourteen numbers, each behind a space.
-pub fn fields(numbers: &[u64; 14]) {
+// Each number behind a space.
+pub fn numbers(each: &[u64]) {
     let mut i = 0;
-    while i < 14 {
-        spaced(numbers[i]);
+    while i < each.len() {
+        spaced(each[i]);
         i += 1;
     }
 }
 
-// A space before each part of a sequence: fill, sync, bits 12 to 28, their check, fill, and what stands behind.
-fn gap(i: usize) {
-    match i {
-        0 | 4 | 12 | 29 | 45 | 49 => text(b" "),
-        _ => {}
+// Is a place the first one of part k?
+fn begins(starts: &[usize], k: usize, place: usize) -> bool {
+    if k < starts.len() {
+        return starts[k] == place;
     }
+    false
 }
 
 fn digit(byte: u8) {
     io::print_decimal(STDOUT_FILENO, byte as u64);
 }
 
-// 51 bytes below ten, a digit to each.
-pub fn digits(bytes: &[u8; 51]) {
+// Bytes below ten, a digit to each, with a space before each part. `starts` has the first place of each part, in order.
+pub fn digits(bytes: &[u8], starts: &[usize]) {
+    let mut k = 0;
     let mut i = 0;
-    while i < 51 {
-        gap(i);
+    while i < bytes.len() {
+        if begins(starts, k, i) {
+            text(b" ");
+            k += 1;
+        }
         digit(bytes[i]);
         i += 1;
     }

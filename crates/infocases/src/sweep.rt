@@ -1,5 +1,4 @@
 // All permitted sets of fields, and all bodies of seventeen bits.
-use crate::check::tested_crc;
 use crate::show::say;
 use crate::show::text;
 use bits::put_digits;
@@ -8,6 +7,8 @@ use info::info0::Info0;
 use info::info0::numbers_of;
 use info::info0::read;
 use info::info0::write;
+use spelling::check::tested_crc;
+use spelling::same::same;
 
 // 01110010, which are the digits of 2 + 4 + 8 + 64.
 const SYNC: u64 = 78;
@@ -30,17 +31,6 @@ fn permitted(i: u64) -> Info0 {
         difference: i / 4096 % 6,
         clock: i / 24576 % 3,
     }
-}
-
-fn same(a: &[u64; 14], b: &[u64; 14]) -> bool {
-    let mut i = 0;
-    while i < 14 {
-        if a[i] != b[i] {
-            return false;
-        }
-        i += 1;
-    }
-    true
 }
 
 // Is the set written, and read back as it was?

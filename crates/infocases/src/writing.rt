@@ -1,8 +1,9 @@
 // One line for each set of fields that is to be written: the fields, how many bytes are lent, the refusal number, and the bytes after it.
 ghost use Prim.Native.Nat.{_≤_, _<_};
 ghost use lib.ListN.{length};
+use crate::reading::STARTS;
+use crate::show;
 use crate::show::digits;
-use crate::show::fields;
 use crate::show::outcome;
 use crate::show::text;
 use info::info0::fields_of;
@@ -38,9 +39,9 @@ fn writes(k: usize, number: u64, lent: usize)
     let mut space = [9u8; 51];
     let refusal = write_into(numbers, &mut space, lent);
     text(b"write");
-    fields(&numbers);
+    show::numbers(&numbers);
     outcome(lent, refusal);
-    digits(&space);
+    digits(&space, &STARTS);
     text(b"\n");
 }
 

@@ -14,6 +14,7 @@
 --     Sequences   exactly which are accepted; what was written is read, and what was read is written
 --     Noticed     an accepted sequence with up to sixteen free places in a row turned is refused
 --     Trips       what was written is read, and what was read is written, of the answers; at most one answer fits
+--     Named       fields by names, as a table prints them: exactly the printed sequences are read and written, there and back
 --     Listed      a list is its numbers one by one: so a struct may hold the numbers of the fields
 pub mod Adds
 pub mod Registers
@@ -29,4 +30,5 @@ pub mod Given
 pub mod Sequences
 pub mod Noticed
 pub mod Trips
+pub mod Named
 pub mod Listed

@@ -3,17 +3,17 @@
 use mathlib.Core.Bool.{true, _&&_}
 use mathlib.Core.List.{List, [], _∷_, _++_, append-assoc}
 use mathlib.Core.Path.{_≡_, refl, sym, ap, ap₂, subst, _∙_}
-use Prim.Native.Nat.{ℕ, zero, suc, _+_, _-_, _^_, _≤_, _<_}
+use Prim.Native.Nat.{ℕ, zero, suc, _+_, _-_, _%_, _^_, _≤_, _<_}
 use native.Mathlib.Omega.{arith}
-use borrow.Author.Tests.{eqb-true, leb-true, ltb-true}
+use borrow.Author.Tests.{le-leb, eqb-true, leb-true, ltb-true}
 use lib.Dec.{eqb, leb, ltb}
 use lib.ListN.{length, getD, take, drop, length-append, length-drop}
 use lib.Seq.{slice, drop-drop, take-add, take-at, drop-at, length-take-le, getD-drop}
-use Rattle.laws.proofs.Bools.{and-parts}
+use Rattle.laws.proofs.Bools.{and-parts, and-both}
 use Rattle.bits.specs.Digits.{value, digits, Bits}
 use Rattle.bits.proofs.Digitals.{length-digits, bits-digits, bits-append, bits-drop, value-digits, digits-value-take}
 use Rattle.sequences.specs.Picture.{free, inside}
-use Rattle.sequences.specs.Table.{Field, lies, fieldsIn, fieldBits, inRange, bitCount, isLaid}
+use Rattle.sequences.specs.Table.{Field, upTo, lies, fieldsIn, fieldBits, inRange, bitCount, isLaid}
 use Rattle.sequences.proofs.Pictures.{all-fixed, all-free}
 
 -- the numbers of fields that stand one behind the other
@@ -203,3 +203,10 @@ range-at (field ∷ table) numbers (suc k) d r h =
     let next : getD (drop 1 numbers) k 0 ≡ getD numbers (suc k) 0 = getD-drop 1 numbers k 0 ∙ ap (λ (n : ℕ). getD numbers n 0) one-on in
     subst (λ (y : ℕ). (getD table k d .least ≤ y) × (y ≤ getD table k d .most)) next
     (range-at table (drop 1 numbers) k d (range .later) (omega arith))
+
+-- a number that a field from 0 on may be, and a bit, which is its own only digit
+pub lies-up-to : (first width most x : ℕ) → x ≤ most → lies (upTo first width most) x ≡ true
+lies-up-to first width most x h = and-both _ _ (le-leb 0 x (omega arith)) (le-leb x most h)
+
+pub bit-is-digit : (x : ℕ) → x ≤ 1 → x % 2 ≡ x
+bit-is-digit x h = omega arith

@@ -67,10 +67,14 @@ sequenceRefusal s numbers lent = refusal (sequenceTests s numbers (isLong s lent
 unfoldable pub sequenceOf : Sequence → List ℕ → List ℕ
 sequenceOf s numbers = around (s .picture) (sealed (fieldBits (s .table) numbers))
 
+-- the fields that the reader answers: zeros after a refusal
+abbrev pub fieldsRead : Sequence → List ℕ → List ℕ
+fieldsRead s bits = cond (eqb (fieldsRefusal s bits) 0) (fieldsIn (s .table) bits) (replicate (length (s .table)) 0)
+
 -- what the reader answers: a number, and the fields
 pub record FieldsAnswer (s : Sequence) (bits : List ℕ) (r : ℕ) (numbers : List ℕ) : Type 0 where
   pub number : r ≡ fieldsRefusal s bits
-  pub fields : numbers ≡ cond (eqb (fieldsRefusal s bits) 0) (fieldsIn (s .table) bits) (replicate (length (s .table)) 0)
+  pub fields : numbers ≡ fieldsRead s bits
 
 -- what the writer answers: a number, and what it was lent
 pub record SequenceAnswer (s : Sequence) (numbers lent : List ℕ) (r : ℕ) (after : List ℕ) : Type 0 where

@@ -8,17 +8,20 @@
 --     read-accepts           the state is one that a start answers, and no test refuses the labels that the bytes hold
 --     info0-read-accepts     the bits are those of Table 14 for fields that it can say
 --     info0-write-accepts    the bytes hold fields that Table 14 can say
+--     info1c-read-accepts    the bits are those of Table 15 for fields and a count that it can say
+--     info1c-write-accepts   the bytes hold fields and a count that Table 15 can say
 -- and so ww_write takes every data frame of N bits from a state that a start answered, `writes-from-start`. Assumes nothing.
 use mathlib.Core.Bool.{Bool, true, false, not, cond}
 use mathlib.Core.List.{List, [], _∷_}
 use mathlib.Core.Logic.{_↔_}
-use mathlib.Core.Path.{_≡_, refl, sym, ap, subst, _∙_}
+use mathlib.Core.Path.{_≡_, refl, sym, subst, _∙_}
 use Prim.Native.Nat.{ℕ, _*_, _^_, _≤_, _<_}
 use native.Mathlib.Omega.{arith}
 use lib.Dec.{eqb}
 use lib.ListN.{length}
 use borrow.Author.Tests.{eqb-true, eqb-false}
 use Rattle.laws.specs.Choice.{refusal}
+use Rattle.laws.specs.Lists.{Every}
 use Rattle.bits.specs.Digits.{Bits}
 use Rattle.laws.proofs.Bools.{not-not}
 use Rattle.laws.proofs.Choices.{none-first}
@@ -30,11 +33,17 @@ use Rattle.line.specs.declared.settings.Settings.{Settings}
 use Rattle.line.specs.declared.settings.Worked.the-variants.{Accepted}
 use Rattle.line.specs.Settings.{workedOf, numberOf}
 use Rattle.line.proofs.Acceptance.{Right, unrefused-right, right-unrefused, number-is}
-use Rattle.sequences.specs.Sequence.{sequenceRefusal}
+use Rattle.sequences.specs.Sequence.{Sequence}
+use Rattle.offset.specs.Signed.{unsigned}
+use Rattle.sequences.proofs.Named.{Printed, reads-exactly, numbers-exactly}
+use Rattle.info.specs.Frame.{fill, sync, fixed, places, framed}
 use Rattle.info.specs.Info0.{info0, numbersOf}
 use Rattle.info.specs.Table14.{Sayable, sequence14}
 use Rattle.info.specs.declared.info0.Info0.{Info0}
-use Rattle.info.proofs.Rows14.{fieldsOf, numbersOf-fieldsOf, reads-exactly, writes-exactly}
+use Rattle.info.specs.Info1c.{info1c, numbersOf as info1cNumbers}
+use Rattle.info.specs.Table15.{Sayable as Sayable15, sequence15}
+use Rattle.info.proofs.Rows14.{fieldsOf, printed14}
+use Rattle.info.proofs.Rows15.{Said, numbersSaid, saidBy, MaySay, sequenceSaid, printed15}
 use Rattle.coder.specs.declared.states.State.{State}
 use Rattle.coder.specs.State.{workedIn, startedOf, shortStartedOf}
 use Rattle.coder.specs.Receiving.{receivingOf, allInRange, numbersFit, allStepsFit}
@@ -42,16 +51,20 @@ use Rattle.coder.specs.Answers.{Receivable}
 use Rattle.coder.proofs.Acceptance.{settings-sound, writer-accepts, reader-accepts}
 use Rattle.coder.proofs.Starting.{Fit, fit-worked, plain, start-accepts as state-accepts, short-start-accepts as plain-accepts}
 use Rattle.workerwax.specs.Calls.{own, ParametersCall, RankCall, StartCall, WriteCall, ReadCall}
-use Rattle.workerwax.specs.Info.{Info0ReadCall, Info0WriteCall}
-use Rattle.workerwax.specs.Layout.{numbersIn, labelsIn, parametersBytes, rankBytes, startBytes, codedBytes, info0Bits, info0Bytes}
+use Rattle.workerwax.specs.Info.{SequenceReadCall, SequenceWriteCall, Info0ReadCall, Info0WriteCall, asTheyAre}
+use Rattle.workerwax.specs.Info.{Info1cReadCall, Info1cWriteCall, countIn10, countIn32, reported}
+use Rattle.workerwax.specs.Layout.{words, numbersIn, labelsIn, parametersBytes, rankBytes, startBytes, codedBytes}
+use Rattle.workerwax.specs.Layout.{info0Bits, info0Bytes, info1cBits, info1cBytes, reportBytes}
 use Rattle.workerwax.specs.Lending.{lentLabels}
 use Rattle.workerwax.proofs.Lends.{lent-exact, length-labels}
 use Rattle.workerwax.proofs.Coding.{all-given}
 use Rattle.workerwax.proofs.Ways.{rank-same, rank-is, rank-four}
 use Rattle.workerwax.proofs.Below.{part, part-length, written-number, sendable, written-lent}
 use Rattle.workerwax.proofs.Below.{given, read-number, receivable, given-lent, read-given}
-use Rattle.workerwax.proofs.Undone.{length-numbers}
-use Rattle.workerwax.proofs.Infos.{info0-read-zero, info0-zero-read, info0-write-zero, info0-zero-written}
+use Rattle.workerwax.proofs.Undone.{Byte, length-numbers, numbers-short}
+use Rattle.workerwax.proofs.Infos.{read-zero, write-zero}
+use Rattle.workerwax.proofs.Carried.{Carried, meant-exactly}
+use Rattle.workerwax.proofs.Reported.{carried1c, told-said}
 
 -- a call that is refused by a part of it, or for one length
 own-parts : (number lent size : ℕ) → refusal (own number ∷ (not (eqb lent size), 8) ∷ []) ≡ 0 → (number ≡ 0) × (lent ≡ size)
@@ -269,33 +282,96 @@ writes-from-start st answer after start =
           ),
     )
 
+-- The calls of any sequence that is as it is printed.
+module _ {F : Type 0} (s : Sequence) (numbersOf : F → List ℕ) (fieldsOf : List ℕ → F) (Sayable : F → Type 0) (printed : F → List ℕ)
+    (p : Printed s numbersOf fieldsOf Sayable printed) (bytes : ℕ) where
+  pub sequence-read-accepts :
+      (shown : List ℕ → List ℕ) (bits lent : List ℕ) (r : ℕ) (after : List ℕ) → SequenceReadCall s bytes shown bits lent r after
+      → (r ≡ 0) ↔ (((f : F) × Sayable f × (bits ≡ printed f)) × (length lent ≡ bytes))
+  sequence-read-accepts shown bits lent r after call =
+      let same = reads-exactly s numbersOf fieldsOf Sayable printed p bits in
+      let parts = read-zero s bytes shown bits lent r after call in
+      (λ zero. (same .0 (parts .0 zero .1), parts .0 zero .0), λ q. parts .1 (q .1, same .1 (q .0)))
+
+  -- `meant` gives a number for each field
+  pub sequence-write-accepts :
+      (meant : List ℕ → List ℕ) (fields lent : List ℕ) (r : ℕ) (after : List ℕ)
+      → (length fields ≡ bytes → length (meant (numbersIn fields)) ≡ length (s .table))
+      → SequenceWriteCall s bytes meant fields lent r after
+      → (r ≡ 0)
+      ↔ (((f : F) × Sayable f × (numbersOf f ≡ meant (numbersIn fields))) × (length fields ≡ bytes) × (length lent ≡ length (s .picture)))
+  sequence-write-accepts meant fields lent r after counted call =
+      let numbers = meant (numbersIn fields) in
+      let same = numbers-exactly s numbersOf fieldsOf Sayable printed p numbers (length lent) in
+      let parts = write-zero s bytes meant fields lent r after call in (
+        λ zero. let q = parts .0 zero in let w = same (counted (q .0)) .0 (q .1) in (w .0, q .0, w .1),
+        λ q. parts .1 (q .1, same (counted (q .1)) .1 (q .0, q .2)),
+      )
+
+  -- the same by what the bytes of the fields tell
+  pub sequence-write-accepts-told :
+      (shown meant told : List ℕ → List ℕ) → Carried s bytes shown meant told
+      → (fields lent : List ℕ) (r : ℕ) (after : List ℕ) → Every Byte fields → SequenceWriteCall s bytes meant fields lent r after
+      → (r ≡ 0)
+      ↔ (((f : F) × Sayable f × (numbersIn fields ≡ told (numbersOf f))) × (length fields ≡ bytes) × (length lent ≡ length (s .picture)))
+  sequence-write-accepts-told shown meant told c fields lent r after small call = (
+    λ zero. let q = accepts .0 zero in ((q .0 .0, q .0 .1, same (q .0 .0) (q .0 .1) (q .1) .0 (q .0 .2)), q .1, q .2),
+    λ q. accepts .1 ((q .0 .0, q .0 .1, same (q .0 .0) (q .0 .1) (q .1) .1 (q .0 .2)), q .1, q .2),
+  )
+    where
+      counted : length fields ≡ bytes → length (numbersIn fields) ≡ length (s .table)
+      counted e = length-numbers (length (s .table)) fields (e ∙ c .size)
+
+      accepts :
+          (r ≡ 0)
+          ↔ (((f : F) × Sayable f × (numbersOf f ≡ meant (numbersIn fields))) × (length fields ≡ bytes)
+          × (length lent ≡ length (s .picture)))
+      accepts = sequence-write-accepts meant fields lent r after (λ e. c .count-meant (numbersIn fields) (counted e)) call
+
+      same :
+          (f : F) → Sayable f → length fields ≡ bytes → (numbersOf f ≡ meant (numbersIn fields)) ↔ (numbersIn fields ≡ told (numbersOf f))
+      same f h e =
+          meant-exactly s bytes shown meant told c (numbersIn fields) (numbersOf f) (counted e) (numbers-short fields small) (p .count f)
+          (p .ranged f h)
+
 -- ww_info0_read and ww_info0_write, by Table 14 of V.34
 pub info0-read-accepts :
     (bits lent : List ℕ) (r : ℕ) (after : List ℕ) → Info0ReadCall bits lent r after
     → (r ≡ 0) ↔ (((f : Info0) × Sayable f × (bits ≡ sequence14 f)) × (length lent ≡ info0Bytes))
-info0-read-accepts bits lent r after call = (
-  λ zero. let parts = info0-read-zero bits lent r after call zero in (reads-exactly bits .0 (parts .1), parts .0),
-  λ p. info0-zero-read bits lent r after call (p .1) (reads-exactly bits .1 (p .0)),
-)
+info0-read-accepts = sequence-read-accepts info0 numbersOf fieldsOf Sayable sequence14 printed14 info0Bytes words
 
 pub info0-write-accepts :
     (fields lent : List ℕ) (r : ℕ) (after : List ℕ) → Info0WriteCall fields lent r after
     → (r ≡ 0)
     ↔ (((f : Info0) × Sayable f × (numbersOf f ≡ numbersIn fields)) × (length fields ≡ info0Bytes) × (length lent ≡ info0Bits))
-info0-write-accepts fields lent r after call = (there, back)
+unfolding info0 framed fixed places fill sync
+info0-write-accepts fields lent r after =
+    sequence-write-accepts info0 numbersOf fieldsOf Sayable sequence14 printed14 info0Bytes asTheyAre fields lent r after
+    (length-numbers 14 fields)
+
+-- ww_info1c_read and ww_info1c_write, by Table 15 of V.34: fields and a count
+pub info1c-read-accepts :
+    (bits lent : List ℕ) (r : ℕ) (after : List ℕ) → Info1cReadCall bits lent r after
+    → (r ≡ 0)
+    ↔ (((p : Said) × Sayable15 (p .0) (p .1) × (bits ≡ sequence15 (p .0) (p .1))) × (length lent ≡ reportBytes))
+info1c-read-accepts = sequence-read-accepts info1c numbersSaid saidBy MaySay sequenceSaid printed15 reportBytes reported
+
+pub info1c-write-accepts :
+    (fields lent : List ℕ) (r : ℕ) (after : List ℕ) → Every Byte fields → Info1cWriteCall fields lent r after
+    → (r ≡ 0)
+    ↔ (((p : Said) × Sayable15 (p .0) (p .1) × (numbersIn fields ≡ info1cNumbers (p .0) (unsigned 2147483648 (p .1))))
+    × (length fields ≡ info1cBytes)
+    × (length lent ≡ info1cBits))
+unfolding info1c framed fixed places fill sync
+info1c-write-accepts fields lent r after small call = (
+  λ zero. let q = accepts .0 zero in ((q .0 .0, q .0 .1, q .0 .2 ∙ told-said (q .0 .0) (q .0 .1)), q .1, q .2),
+  λ q. accepts .1 ((q .0 .0, q .0 .1, q .0 .2 ∙ sym (told-said (q .0 .0) (q .0 .1))), q .1, q .2),
+)
   where
-    refused : List ℕ → ℕ
-    refused numbers = sequenceRefusal info0 numbers (length lent)
-
-    there : r ≡ 0 → ((f : Info0) × Sayable f × (numbersOf f ≡ numbersIn fields)) × (length fields ≡ info0Bytes) × (length lent ≡ info0Bits)
-    there zero =
-        let parts = info0-write-zero fields lent r after call zero in
-        let f = fieldsOf (numbersIn fields) in
-        let same = numbersOf-fieldsOf (numbersIn fields) (length-numbers 14 fields (parts .0)) in
-        let said = writes-exactly f (length lent) .0 (ap refused same ∙ parts .1) in
-        ((f, said .0, same), parts .0, said .1)
-
-    back : ((f : Info0) × Sayable f × (numbersOf f ≡ numbersIn fields)) × (length fields ≡ info0Bytes) × (length lent ≡ info0Bits) → r ≡ 0
-    back p =
-        info0-zero-written fields lent r after call (p .1)
-        (ap refused (sym (p .0 .2)) ∙ writes-exactly (p .0 .0) (length lent) .1 (p .0 .1, p .2))
+    accepts :
+        (r ≡ 0)
+        ↔ (((p : Said) × MaySay p × (numbersIn fields ≡ countIn32 (numbersSaid p))) × (length fields ≡ info1cBytes)
+        × (length lent ≡ length (info1c .picture)))
+    accepts =
+        sequence-write-accepts-told info1c numbersSaid saidBy MaySay sequenceSaid printed15 info1cBytes reported countIn10 countIn32
+        carried1c fields lent r after small call

@@ -2,7 +2,7 @@
 -- refuses it as unstated, whatever else it is asked. Assumes nothing.
 use mathlib.Core.Bool.{Bool, true, false, cond}
 use mathlib.Core.List.{List, [], _∷_}
-use mathlib.Core.Path.{_≡_, sym, ap, _∙_}
+use mathlib.Core.Path.{_≡_, refl, sym, ap, _∙_}
 use Prim.Native.Nat.{ℕ, _≤_}
 use native.Mathlib.Omega.{arith}
 use lib.ListN.{length, getD}
@@ -13,13 +13,19 @@ use Rattle.laws.proofs.Counting.{every-append}
 use Rattle.line.specs.Asked.{asked}
 use Rattle.line.specs.declared.asked.Asked.{Asked}
 use Rattle.line.specs.Settings.{refusals, settingsRefusal, workedOf}
-use Rattle.info.specs.declared.info0.Info0.{Info0}
+use Rattle.sequences.specs.Sequence.{FieldsAnswer}
+use Rattle.sequences.specs.Table.{fieldsIn}
+use Rattle.sequences.proofs.Tables.{length-fieldsIn}
+use Rattle.sequences.proofs.Trips.{answer-fields}
+use Rattle.info.specs.Info0.{info0, numbersOf}
+use Rattle.info.proofs.Rows14.{fieldsOf, numbersOf-fieldsOf}
 use Rattle.info.proofs.Marks.{mark-is-bit-25, mark-is-stated}
 use Rattle.coder.specs.State.{stateOf, unfit, startedOf, shortStartedOf}
 use Rattle.workerwax.specs.Calls.{ParametersCall, StartCall}
 use Rattle.workerwax.specs.Info.{Info0ReadCall}
-use Rattle.workerwax.specs.Layout.{numbersIn, parametersBytes, startBytes}
-use Rattle.workerwax.proofs.Infos.{ReadBelow, info0-read-zero, info0-read-below}
+use Rattle.workerwax.specs.Layout.{words, numbersIn, parametersBytes, startBytes, info0Bytes}
+use Rattle.workerwax.proofs.Infos.{read-zero}
+use Rattle.workerwax.proofs.Carried.{info0-says}
 use Rattle.workerwax.proofs.InOrder.{lengthTest, parametersTests, parameters-listed, startTests, start-listed}
 
 -- A refusal with 5 is that of a test with this number, and one that fails gives none.
@@ -56,17 +62,24 @@ abbrev pub markIn : List ℕ → ℕ
 markIn fields = getD (numbersIn fields) 11 0
 
 module _ (bits lent : List ℕ) (r : ℕ) (fields : List ℕ) (call : Info0ReadCall bits lent r fields) (zero : r ≡ 0) where
-  found : (f : Info0) × ReadBelow bits r fields f
-  found = info0-read-below bits lent (info0-read-zero bits lent r fields call zero .0) r fields call
+  abbrev numbers : List ℕ
+  numbers = fieldsIn (info0 .table) bits
 
-  mark-found : markIn fields ≡ found .0 .mark
-  mark-found = ap (λ (l : List ℕ). getD l 11 0) (found .1 .says zero)
+  -- what the reader answered, by its names
+  answer : FieldsAnswer info0 bits 0 (numbersOf (fieldsOf numbers))
+  unfolding info0
+  answer =
+      let none = read-zero info0 info0Bytes words bits lent r fields call .0 zero .1 in
+      rw (numbersOf-fieldsOf numbers (length-fieldsIn (info0 .table) bits)) (answer-fields info0 bits none)
+
+  mark-found : markIn fields ≡ fieldsOf numbers .mark
+  mark-found = ap (λ (l : List ℕ). getD l 11 0) (info0-says bits lent r fields call zero)
 
   pub mark-of-bit-25 : markIn fields ≡ getD bits 25 0
-  mark-of-bit-25 = mark-found ∙ mark-is-bit-25 bits r (found .0) (found .1 .answer) zero
+  mark-of-bit-25 = mark-found ∙ mark-is-bit-25 bits 0 (fieldsOf numbers) answer refl
 
   pub mark-stated : markIn fields ≤ 1
-  mark-stated = omega (arith, mark-found, mark-is-stated bits r (found .0) (found .1 .answer) zero)
+  mark-stated = omega (arith, mark-found, mark-is-stated bits 0 (fieldsOf numbers) answer refl)
 
   module _ (role s n shaping : ℕ) where
     abbrev wanted : Asked

@@ -19,14 +19,15 @@ use Rattle.line.specs.declared.settings.Settings.{Settings}
 use Rattle.line.specs.declared.settings.Worked.{Worked}
 use Rattle.line.specs.declared.settings.Worked.the-variants.{Accepted, Refused}
 use Rattle.line.proofs.Acceptance.{number-is, refused-some}
-use Rattle.sequences.specs.Sequence.{fieldsTests, sequenceTests}
+use Rattle.sequences.specs.Sequence.{Sequence, fieldsTests, sequenceTests, isLong}
 use Rattle.info.specs.Info0.{info0}
+use Rattle.info.specs.Info1c.{info1c}
 use Rattle.coder.specs.declared.states.State.{State}
 use Rattle.coder.specs.State.{stateOf, workedIn, unfit, stateRefusalOf, startedOf, shortStartedOf}
 use Rattle.coder.specs.Answers.{writeTests, readTests}
 use Rattle.workerwax.specs.Calls.{order, own, parametersNumber, rankNumber, startNumber, exactBytes, writeNumber, readNumber}
-use Rattle.workerwax.specs.Info.{info0ReadNumber, info0WriteNumber}
-use Rattle.workerwax.specs.Layout.{numbersIn, labelsIn, parametersBytes, rankBytes, startBytes, info0Bits, info0Bytes}
+use Rattle.workerwax.specs.Info.{info0ReadNumber, info0WriteNumber, asTheyAre, info1cReadNumber, info1cWriteNumber, countIn10}
+use Rattle.workerwax.specs.Layout.{numbersIn, labelsIn, parametersBytes, rankBytes, startBytes, info0Bytes, info1cBytes, reportBytes}
 use Rattle.workerwax.proofs.Ways.{own-given}
 
 -- The settings' tests, and more behind them: refused settings give their own number, accepted ones leave it to the others.
@@ -162,23 +163,57 @@ module _ (st : State) (labels : List ℕ) (bits answer : ℕ) where
   read-follows (Refused k) = refl
   read-follows (Accepted c) = refl
 
--- ww_info0_read and ww_info0_write: the tests of the reader and of the writer of a sequence
+-- the calls of any sequence: the tests of its reader and of its writer
+module _ (s : Sequence) (bytes : ℕ) where
+  abbrev pub sequenceReadTests : List ℕ → ℕ → List (Bool × ℕ)
+  sequenceReadTests bits lent = fieldsTests s bits (isLong s (length bits) && eqb lent bytes)
+
+  pub sequence-read-follows : (bits : List ℕ) (lent : ℕ) → follows order (numbered (sequenceReadTests bits lent)) ≡ true
+  unfolding follows numbered fieldsTests
+  sequence-read-follows bits lent = refl
+
+  module _ (meant : List ℕ → List ℕ) where
+    abbrev pub sequenceWriteTests : List ℕ → ℕ → List (Bool × ℕ)
+    sequenceWriteTests fields lent = sequenceTests s (meant (numbersIn fields)) (eqb (length fields) bytes && isLong s lent)
+
+    pub sequence-write-follows : (fields : List ℕ) (lent : ℕ) → follows order (numbered (sequenceWriteTests fields lent)) ≡ true
+    unfolding follows numbered sequenceTests
+    sequence-write-follows fields lent = refl
+
+-- ww_info0_read and ww_info0_write
 abbrev pub info0ReadTests : List ℕ → ℕ → List (Bool × ℕ)
-info0ReadTests bits lent = fieldsTests info0 bits (eqb (length bits) info0Bits && eqb lent info0Bytes)
+info0ReadTests = sequenceReadTests info0 info0Bytes
 
 pub info0-read-listed : (bits : List ℕ) (lent : ℕ) → info0ReadNumber bits lent ≡ refusal (info0ReadTests bits lent)
 info0-read-listed bits lent = refl
 
 pub info0-read-follows : (bits : List ℕ) (lent : ℕ) → follows order (numbered (info0ReadTests bits lent)) ≡ true
-unfolding follows numbered fieldsTests
-info0-read-follows bits lent = refl
+info0-read-follows = sequence-read-follows info0 info0Bytes
 
 abbrev pub info0WriteTests : List ℕ → ℕ → List (Bool × ℕ)
-info0WriteTests fields lent = sequenceTests info0 (numbersIn fields) (eqb (length fields) info0Bytes && eqb lent info0Bits)
+info0WriteTests = sequenceWriteTests info0 info0Bytes asTheyAre
 
 pub info0-write-listed : (fields : List ℕ) (lent : ℕ) → info0WriteNumber fields lent ≡ refusal (info0WriteTests fields lent)
 info0-write-listed fields lent = refl
 
 pub info0-write-follows : (fields : List ℕ) (lent : ℕ) → follows order (numbered (info0WriteTests fields lent)) ≡ true
-unfolding follows numbered sequenceTests
-info0-write-follows fields lent = refl
+info0-write-follows = sequence-write-follows info0 info0Bytes asTheyAre
+
+-- ww_info1c_read and ww_info1c_write
+abbrev pub info1cReadTests : List ℕ → ℕ → List (Bool × ℕ)
+info1cReadTests = sequenceReadTests info1c reportBytes
+
+pub info1c-read-listed : (bits : List ℕ) (lent : ℕ) → info1cReadNumber bits lent ≡ refusal (info1cReadTests bits lent)
+info1c-read-listed bits lent = refl
+
+pub info1c-read-follows : (bits : List ℕ) (lent : ℕ) → follows order (numbered (info1cReadTests bits lent)) ≡ true
+info1c-read-follows = sequence-read-follows info1c reportBytes
+
+abbrev pub info1cWriteTests : List ℕ → ℕ → List (Bool × ℕ)
+info1cWriteTests = sequenceWriteTests info1c info1cBytes countIn10
+
+pub info1c-write-listed : (fields : List ℕ) (lent : ℕ) → info1cWriteNumber fields lent ≡ refusal (info1cWriteTests fields lent)
+info1c-write-listed fields lent = refl
+
+pub info1c-write-follows : (fields : List ℕ) (lent : ℕ) → follows order (numbered (info1cWriteTests fields lent)) ≡ true
+info1c-write-follows = sequence-write-follows info1c info1cBytes countIn10

@@ -1,13 +1,14 @@
 -- Numbers and labels put into bytes one after the other, and taken out of bytes: what each store adds to what is done, and that what is
 -- done and what is left make the whole. Assumes nothing.
 use mathlib.Core.List.{List, [], _∷_, _++_, append-assoc, append-nil}
-use mathlib.Core.Path.{_≡_, refl, sym, ap, _∙_}
-use Prim.Native.Nat.{ℕ, suc, _+_, _*_, _/_, _%_, _≤_, _<_}
+use mathlib.Core.Path.{_≡_, refl, sym, ap, ap₂, _∙_}
+use Prim.Native.Nat.{ℕ, suc, _+_, _*_, _-_, _/_, _%_, _≤_, _<_}
 use native.Mathlib.Nat.{mul-zero}
 use native.Mathlib.Numerals.{add-one}
 use native.Mathlib.Omega.{arith}
 use lib.ListN.{length, take, drop, getD, set, length-append, length-set, drop-of-length-le}
-use lib.Seq.{take-suc, take-suc-set, drop-cons, take-all}
+use lib.Seq.{take-suc, take-suc-set, drop-cons, take-all, take-at, drop-length}
+use borrow.Rule.Slice.PartMut.{putMid, postOf, post-is}
 use Rattle.laws.specs.Put.{Put}
 use Rattle.laws.proofs.Puts.{four-stores, put-whole}
 use Rattle.workerwax.specs.Layout.{word, words, numbersIn, labelBytes, labelsIn}
@@ -48,7 +49,7 @@ pub words-none : words [] ≡ []
 unfolding words
 words-none = refl
 
-words-append : (ms ns : List ℕ) → words (ms ++ ns) ≡ words ms ++ words ns
+pub words-append : (ms ns : List ℕ) → words (ms ++ ns) ≡ words ms ++ words ns
 unfolding words
 words-append [] ns = refl
 words-append (m ∷ ms) ns = ap (λ (l : List ℕ). word m ++ l) (words-append ms ns) ∙ sym (append-assoc (word m) (words ms) (words ns))
@@ -78,6 +79,16 @@ word-whole n before after k size p = put-whole p (size ∙ sym (length-word n))
 -- a store leaves every place where it was
 pub still-inside : (l : List ℕ) (at x place : ℕ) → place < length l → place < length (set l at x)
 still-inside l at x place h = omega (arith, h, length-set l at x)
+
+-- a part laid out behind another
+pub two-parts :
+    (k : ℕ) (front rest back : List ℕ) → length front ≡ k
+    → putMid k (length (front ++ rest) - k) (front ++ rest) back ≡ front ++ back
+two-parts k front rest back e =
+    let all = front ++ rest in
+    let within : k ≤ length all = omega (arith, length-append front rest) in
+    let none : postOf k (length all - k) all ≡ [] = post-is k (length all) all within ∙ drop-length all in
+    ap₂ (λ (f b : List ℕ). f ++ (back ++ b)) (take-at front rest k e) none ∙ ap (λ (b : List ℕ). front ++ b) (append-nil back)
 
 -- Labels into bytes: i labels are done, and what is left makes the whole.
 pub record Laid (labels out : List ℕ) (i : ℕ) : Type 0 where

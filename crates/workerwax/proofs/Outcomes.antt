@@ -4,10 +4,15 @@ use mathlib.Core.Path.{_≡_, sym, _∙_}
 use Prim.Native.Nat.{ℕ}
 use Rattle.line.specs.declared.settings.Worked.{Worked}
 use Rattle.rings.specs.Mapping.{MapAnswer}
+use Rattle.sequences.specs.Sequence.{Sequence}
+use Rattle.info.specs.Info0.{info0}
+use Rattle.info.specs.Info1c.{info1c}
 use Rattle.coder.specs.declared.states.State.{State}
 use Rattle.coder.specs.declared.states.Started.{Started}
 use Rattle.workerwax.specs.Calls.{ParametersCall, RankCall, StartCall, WriteCall, ReadCall}
-use Rattle.workerwax.specs.Info.{Info0ReadCall, Info0WriteCall}
+use Rattle.workerwax.specs.Info.{SequenceReadCall, SequenceWriteCall, Info0ReadCall, Info0WriteCall, asTheyAre}
+use Rattle.workerwax.specs.Info.{Info1cReadCall, Info1cWriteCall, countIn10, reported}
+use Rattle.workerwax.specs.Layout.{words, info0Bytes, info1cBytes, reportBytes}
 
 pub one-parameters :
     (worked : Worked) (answer : List ℕ) (v w : ℕ) (after other : List ℕ)
@@ -44,12 +49,35 @@ pub one-reading :
 one-reading st labels lent answer v w bits bits′ after other p q =
     (p .number ∙ sym (q .number), p .bits ∙ sym (q .bits), p .next ∙ sym (q .next))
 
+-- the calls of any sequence, and so those of INFO0 and of INFO1c
+module _ (s : Sequence) (bytes : ℕ) where
+  pub one-sequence-reading :
+      (shown : List ℕ → List ℕ) (bits lent : List ℕ) (v w : ℕ) (after other : List ℕ)
+      → SequenceReadCall s bytes shown bits lent v after → SequenceReadCall s bytes shown bits lent w other → (v ≡ w) × (after ≡ other)
+  one-sequence-reading shown bits lent v w after other p q = (p .number ∙ sym (q .number), p .answer ∙ sym (q .answer))
+
+  pub one-sequence-writing :
+      (meant : List ℕ → List ℕ) (fields lent : List ℕ) (v w : ℕ) (after other : List ℕ)
+      → SequenceWriteCall s bytes meant fields lent v after → SequenceWriteCall s bytes meant fields lent w other
+      → (v ≡ w) × (after ≡ other)
+  one-sequence-writing meant fields lent v w after other p q = (p .number ∙ sym (q .number), p .sequence ∙ sym (q .sequence))
+
 pub one-info0-reading :
     (bits lent : List ℕ) (v w : ℕ) (after other : List ℕ)
     → Info0ReadCall bits lent v after → Info0ReadCall bits lent w other → (v ≡ w) × (after ≡ other)
-one-info0-reading bits lent v w after other p q = (p .number ∙ sym (q .number), p .fields ∙ sym (q .fields))
+one-info0-reading = one-sequence-reading info0 info0Bytes words
 
 pub one-info0-writing :
     (fields lent : List ℕ) (v w : ℕ) (after other : List ℕ)
     → Info0WriteCall fields lent v after → Info0WriteCall fields lent w other → (v ≡ w) × (after ≡ other)
-one-info0-writing fields lent v w after other p q = (p .number ∙ sym (q .number), p .sequence ∙ sym (q .sequence))
+one-info0-writing = one-sequence-writing info0 info0Bytes asTheyAre
+
+pub one-info1c-reading :
+    (bits lent : List ℕ) (v w : ℕ) (after other : List ℕ)
+    → Info1cReadCall bits lent v after → Info1cReadCall bits lent w other → (v ≡ w) × (after ≡ other)
+one-info1c-reading = one-sequence-reading info1c reportBytes reported
+
+pub one-info1c-writing :
+    (fields lent : List ℕ) (v w : ℕ) (after other : List ℕ)
+    → Info1cWriteCall fields lent v after → Info1cWriteCall fields lent w other → (v ≡ w) × (after ≡ other)
+one-info1c-writing = one-sequence-writing info1c info1cBytes countIn10

@@ -7,7 +7,7 @@ use Prim.Native.Nat.{ℕ, zero, suc, _+_, _*_, _/_, _%_, _^_, _≤_, _<_}
 use native.Mathlib.Nat.{mod-eq-of-lt, add-mul-mod-self-left, div-div-eq-div-mul}
 use native.Mathlib.Omega.{arith}
 use lib.Dec.{leb, ltb}
-use lib.ListN.{length}
+use lib.ListN.{length, getD}
 use borrow.Author.Tests.{leb-true, ltb-true}
 use Rattle.laws.specs.Lists.{Every}
 use Rattle.laws.proofs.Bools.{and-parts}
@@ -41,6 +41,10 @@ number-back n h = ap (λ (x : ℕ). x ∷ []) (bytes-of n h)
 
 abbrev pub Byte : ℕ → Type 0
 Byte b = b < 256
+
+pub bytes-each : (bytes : List ℕ) → ((i : ℕ) → Byte (getD bytes i 0)) → Every Byte bytes
+bytes-each [] h = tt
+bytes-each (b ∷ bytes) h = (h 0, bytes-each bytes (λ i. h (suc i)))
 
 -- the lowest byte, and what stands above it
 first-byte : (a b : ℕ) → Byte a → (a + 256 * b) % 256 ≡ a
@@ -83,6 +87,14 @@ length-numbers (suc k) (a ∷ []) e = absurd (omega arith)
 length-numbers (suc k) (a ∷ b ∷ []) e = absurd (omega arith)
 length-numbers (suc k) (a ∷ b ∷ c ∷ []) e = absurd (omega arith)
 length-numbers (suc k) (a ∷ b ∷ c ∷ d ∷ bytes) e = ap suc (length-numbers k bytes (omega arith))
+
+pub numbers-short : (bytes : List ℕ) → Every Byte bytes → Every FourBytes (numbersIn bytes)
+unfolding numbersIn
+numbers-short [] h = tt
+numbers-short (a ∷ []) h = tt
+numbers-short (a ∷ b ∷ []) h = tt
+numbers-short (a ∷ b ∷ c ∷ []) h = tt
+numbers-short (a ∷ b ∷ c ∷ d ∷ bytes) h = (omega (arith, h .0, h .1 .0, h .1 .1 .0, h .1 .1 .1 .0), numbers-short bytes (h .1 .1 .1 .1))
 
 -- Labels.
 abbrev pub TwoBytes : ℕ → Type 0

@@ -9,6 +9,8 @@
 --     ww_read                     the settings' own; 7; 8; 10; 11; 12
 --     ww_info0_read               8; 9; 16; 17; 18                        (specs/Info)
 --     ww_info0_write              8; 18                                   (specs/Info)
+--     ww_info1c_read              8; 9; 16; 17; 18                        (specs/Info)
+--     ww_info1c_write             8; 18                                   (specs/Info)
 --
 -- 8 is for any slice that is not as long as it has to be, the answer's too. A refused call leaves every slice as it was. A call that
 -- answers 0 has filled them:

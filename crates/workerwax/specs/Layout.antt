@@ -10,6 +10,8 @@
 --     startBytes          role s n shaping mark register Z      28 bytes
 --     codedBytes          N, and the next state                 32 bytes
 --     info0Bytes          the fields of INFO0                   56 bytes, and info0Bits its 49 bits, a byte each
+--     info1cBytes         the fields of INFO1c                  88 bytes, and info1cBits its 109 bits, a byte each
+--     reportBytes         these, flag and hertz                 100 bytes
 use mathlib.Core.List.{List, [], _∷_, _++_}
 use Prim.Native.Nat.{ℕ, _+_, _*_, _/_, _%_}
 
@@ -56,6 +58,15 @@ codedBytes = 4 + startBytes
 abbrev pub info0Bytes : ℕ
 info0Bytes = 4 * 14
 
+abbrev pub info1cBytes : ℕ
+info1cBytes = 4 * 22
+
+abbrev pub reportBytes : ℕ
+reportBytes = info1cBytes + 4 + 8
+
 -- and of a sequence, one for a bit
 abbrev pub info0Bits : ℕ
 info0Bits = 49
+
+abbrev pub info1cBits : ℕ
+info1cBits = 109

@@ -4,8 +4,8 @@ use mathlib.Core.Path.{ap, _∙_}
 use native.Mathlib.Omega.{arith}
 use borrow.Author.Needs.{needs}
 use Rattle.info.specs.Info0.{info0}
-use Rattle.workerwax.specs.Layout.{words}
-use Rattle.workerwax.proofs.Infos.{info0-read-unlent, info0-read-refused, info0-read-done}
+use Rattle.workerwax.specs.Layout.{words, info0Bytes}
+use Rattle.workerwax.proofs.Infos.{read-unlent, read-refused, read-done}
 use Rattle.workerwax.proofs.Refusals.{fields-narrow}
 use Rattle.workerwax.proofs.informing.ww_info0_read.Statement.{statement}
 use Rattle.workerwax.proofs.informing.ww_info0_read.Tie as tie
@@ -22,7 +22,7 @@ abbrev unrefused : tie.After-numbers-of → tie.Else2
 unrefused n = n .before .before .before
 
 returns : tie.Need-returns
-returns c = let a = start (c .before) .args in info0-read-unlent (a .bits .now) (a .fields .now) (c .if1 .taken)
+returns c = let a = start (c .before) .args in read-unlent info0 info0Bytes words (a .bits .now) (a .fields .now) (c .if1 .taken)
 
 read-requires : tie.Need-read-requires
 read-requires c κs = search needs
@@ -38,7 +38,8 @@ returns-2 c =
     let k = t .before .before in
     let a = given k .args in
     rw (c .narrow .ensures)
-    (info0-read-refused (a .bits .now) (a .fields .now) (k .before .if1 .left) _ (k .read .ensures .number) (t .if2 .taken))
+    (read-refused info0 info0Bytes words (a .bits .now) (a .fields .now) _ (k .before .if1 .left) (k .read .ensures .number)
+    (t .if2 .taken))
 
 numbers-of-requires : tie.Need-numbers-of-requires
 numbers-of-requires c κs = search needs
@@ -59,7 +60,7 @@ returns-3 c =
     let e = unrefused n in
     let k = e .before .before in
     let a = given k .args in
-    info0-read-done (a .bits .now) (a .fields .now) (k .before .if1 .left) _ _ _ (k .read .ensures) (e .if2 .left)
+    read-done info0 info0Bytes words (a .bits .now) (a .fields .now) _ _ _ (k .before .if1 .left) (k .read .ensures) (e .if2 .left)
     (w .put-words .ensures ∙ ap words (n .numbers-of .ensures))
 
 pub ww-info0-read-spec : {M : Type 1} → statement M

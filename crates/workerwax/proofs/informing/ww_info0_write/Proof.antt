@@ -7,8 +7,9 @@ use lib.ListN.{length}
 use Rattle.sequences.proofs.Trips.{answer-same}
 use Rattle.sequences.specs.Sequence.{SequenceAnswer}
 use Rattle.info.specs.Info0.{info0}
-use Rattle.workerwax.specs.Layout.{numbersIn}
-use Rattle.workerwax.proofs.Infos.{info0-write-unhanded, info0-write-done}
+use Rattle.workerwax.specs.Info.{asTheyAre}
+use Rattle.workerwax.specs.Layout.{numbersIn, info0Bytes}
+use Rattle.workerwax.proofs.Infos.{write-unhanded, write-done}
 use Rattle.workerwax.proofs.Refusals.{sequence-narrow}
 use Rattle.workerwax.proofs.informing.ww_info0_write.Statement.{statement}
 use Rattle.workerwax.proofs.informing.ww_info0_write.Tie as tie
@@ -18,7 +19,7 @@ abbrev start : tie.After-slice-known → tie.Start
 start k = k .before .before
 
 returns : tie.Need-returns
-returns c = let a = start (c .before) .args in info0-write-unhanded (a .fields .now) (a .bits .now) (c .if1 .taken)
+returns c = let a = start (c .before) .args in write-unhanded info0 info0Bytes asTheyAre (a .fields .now) (a .bits .now) (c .if1 .taken)
 
 slice-aggregate-take-words : tie.Need-slice-aggregate-take-words
 slice-aggregate-take-words c = search needs
@@ -60,7 +61,7 @@ returns-2 c =
     let k = c .before .before .before in
     let a = given k .args in
     let exact = taken k .before .before .if1 .left in
-    rw (c .narrow .ensures) (info0-write-done (a .fields .now) (a .bits .now) exact _ _ (written k))
+    rw (c .narrow .ensures) (write-done info0 info0Bytes asTheyAre (a .fields .now) (a .bits .now) _ _ exact (written k))
 
 pub ww-info0-write-spec : {M : Type 1} → statement M
 ww-info0-write-spec =

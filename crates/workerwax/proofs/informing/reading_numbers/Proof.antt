@@ -1,0 +1,16 @@
+-- `workerwax::informing::reading_numbers` meets its contract. Assumes nothing.
+use borrow.Author.Needs.{needs}
+use Rattle.workerwax.proofs.informing.reading_numbers.Statement.{statement}
+use Rattle.workerwax.proofs.informing.reading_numbers.Tie as tie
+
+pattern-of-requires : tie.Need-pattern-of-requires
+pattern-of-requires c κs = search needs
+
+is-reading-requires : tie.Need-is-reading-requires
+is-reading-requires c κs = search needs
+
+returns : tie.Need-returns
+returns c = rw (c .is-reading .ensures, c .before .pattern-of .ensures)
+
+pub reading-numbers-spec : {M : Type 1} → statement M
+reading-numbers-spec = tie.close (tie.spec pattern-of-requires is-reading-requires returns)
