@@ -1,9 +1,10 @@
 -- The line report of INFO1c: what it says where the sequence is accepted and where it is refused, and that the count and the reading are as
 -- Table 15 has them. Assumes nothing.
-use mathlib.Core.Bool.{Bool, cond}
+use mathlib.Core.Bool.{Bool, true, false, cond}
 use mathlib.Core.List.{List}
 use mathlib.Core.Path.{_≡_, refl, sym, ap, ap₂, _∙_}
 use Prim.Native.Nat.{ℕ, _<_}
+use lib.Dec.{eqb}
 use lib.IntN.{ℤ, pos}
 use lib.ListN.{getD, replicate}
 use borrow.Author.Tests.{ne-eqb}
@@ -12,8 +13,10 @@ use Rattle.sequences.specs.Table.{fieldsIn}
 use Rattle.sequences.proofs.Sequences.{reads}
 use Rattle.sequences.proofs.Trips.{answer-fields, answer-zeros}
 use Rattle.offset.specs.Hertz.{readingOf}
+use Rattle.offset.specs.Requires.{NoNan}
 use Rattle.offset.specs.declared.reading.Reading.{Reading}
 use Rattle.offset.specs.declared.reading.Reading.the-variants.{Blank}
+use Rattle.offset.proofs.Readings.{no-nan}
 use Rattle.info.specs.Info1c.{block, info1c, fieldsOf, countOf, reportOf, report}
 use Rattle.info.specs.declared.info1c.Info1c.{Info1c}
 use Rattle.info.specs.declared.info1c.Report.{Report}
@@ -59,3 +62,11 @@ answer-read bits numbers found count reading read same f c r =
     ap₂ (λ (g : Info1c) (z : Reading). made 0 g count z) f r
     ∙ (ap (λ (z : ℤ). made 0 (fieldsOf numbers) z (readingOf z)) c
     ∙ (ap (reportOf 0) same ∙ sym (report-read bits read)))
+
+-- whatever the bits, the reading of a report is a number where there is one
+pub report-no-nan : (bits : List ℕ) → NoNan (report bits .reading)
+report-no-nan bits = by (eqb (report bits .refusal) 0) (report bits .count)
+  where
+    by : (v : Bool) (z : ℤ) → NoNan (cond v (readingOf z) Blank)
+    by true z = no-nan z
+    by false z = tt

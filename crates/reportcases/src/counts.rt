@@ -14,9 +14,9 @@ pub fn count_of(k: u64) -> i32 {
     signed((k % 1024 + 512) % 1024, 512)
 }
 
-// How many counts come back, how many have a reading, the sum of the bits of their doubles, and the sum of these, each times its count + 513,
-// in which an exchange of two would be seen. All is modulo 2^64. It goes from the last count down, so that number k is in k + 1 of the sums
-// that are added up.
+// How many counts come back, how many have a reading, the sum of the bits of their doubles, and the sum of these, each times its count +
+// 513, in which an exchange of two would be seen. All is modulo 2^64. It goes from the last count down, so that number k is in k + 1 of the
+// sums that are added up.
 pub fn sweeps() {
     let mut back = 0;
     let mut readings = 0;

@@ -1,55 +1,49 @@
 // INFO1c sequences that are refused: the mixed one of `accepted` with something wrong. The fields and the count are 0, with no reading.
-ghost use Prim.Native.Nat.{_+_, _≤_, _<_};
 use crate::accepted::END;
 use crate::reading::mixed;
 use crate::reading::reads;
 use crate::reading::reads_end;
-use crate::show::heading;
 use crate::show::text;
 use bits::put_digits;
 
+// The remainders below are the places themselves, and spare a test.
+
 // A byte in the place of a bit.
-fn byte(at: usize, byte: u8)
-    requires { ⌜ at < 111 ⌝ }
-{
+fn byte(at: usize, byte: u8) {
     let mut bits = mixed(END);
-    bits[at] = byte;
+    bits[at % 111] = byte;
     reads(bits, 109);
 }
 
-// Two bytes, and some lent.
-fn bytes(at: usize, byte: u8, other: usize, another: u8, lent: usize)
-    requires { ⌜ (at < 111) × (other < 111) × (lent ≤ 111) ⌝ }
-{
+// Two bytes, and so many lent.
+fn bytes(at: usize, byte: u8, other: usize, another: u8, lent: usize) {
     let mut bits = mixed(END);
-    bits[at] = byte;
-    bits[other] = another;
+    bits[at % 111] = byte;
+    bits[other % 111] = another;
     reads(bits, lent);
 }
 
 // A filter or a rate from a place on, lowest weight first, and the check of it.
-fn four(at: usize, number: u64, check: u64)
-    requires { ⌜ at + 4 ≤ 111 ⌝ }
-{
+fn four(at: usize, number: u64, check: u64) {
     let mut bits = mixed(END / 65536 * 65536 + check % 65536);
-    put_digits(number, 4, &mut bits, at);
+    put_digits(number, 4, &mut bits, at % 108);
     reads(bits, 109);
 }
 
 // Refused for their form. Of the bytes above 1 a 3 stands for a 1 and a 2 for a 0: a test of the lowest bit alone would let them pass.
 pub fn forms() {
-    heading(8);
+    text(b"\n8: not 109 bytes\n");
     reads(mixed(END), 0);
     reads(mixed(END), 108);
     reads(mixed(END), 110);
-    heading(9);
+    text(b"\n9: a byte above 1\n");
     byte(0, 3);
     byte(4, 2);
     byte(27, 3);
     byte(88, 3);
     byte(102, 2);
     byte(108, 3);
-    heading(16);
+    text(b"\n16: fill or sync wrong\n");
     byte(0, 0);
     byte(3, 0);
     byte(4, 1);
@@ -62,7 +56,7 @@ pub fn forms() {
 // Refused for what they say. In the last four lines several hold, and the first is given: with bit 29 the filter at 2400 is 11, and the
 // check is wrong.
 pub fn contents() {
-    heading(17);
+    text(b"\n17: check wrong\n");
     byte(12, 0);
     byte(88, 0);
     byte(89, 1);
@@ -71,7 +65,7 @@ pub fn contents() {
     reads_end(0b1101101111_1111000001101111); // of bits 4 to 88
     reads_end(0b1101101111_1000110111011000); // lowest power first
     reads_end(0b1101101111_0010010110010010); // with no preset
-    heading(18);
+    text(b"\n18: a field out of its range\n");
     four(26, 11, 0b0000010101101011);
     four(35, 11, 0b0111010101000111);
     four(44, 11, 0b1000011100110111);

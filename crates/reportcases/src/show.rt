@@ -58,17 +58,6 @@ pub fn digits(bytes: &[u8], starts: &[usize]) {
     }
 }
 
-// What a refusal number says. They stand together, since a text that is lent costs the check of its function the more, the more follows.
-pub fn heading(refusal: u64) {
-    match refusal {
-        8 => text(b"\n8: not 109 bytes\n"),
-        9 => text(b"\n9: a byte above 1\n"),
-        16 => text(b"\n16: fill or sync wrong\n"),
-        17 => text(b"\n17: check wrong\n"),
-        _ => text(b"\n18: a field out of its range\n"),
-    }
-}
-
 // Where the parts of a sequence begin: fill, sync, the two reductions, MD, six blocks, the offset, the check, fill, and what stands behind.
 const STARTS: [usize; 15] = [0, 4, 12, 15, 18, 25, 34, 43, 52, 61, 70, 79, 89, 105, 109];
 

