@@ -14,6 +14,7 @@ use lib.Seq.{take-suc, length-take-le, getD-drop}
 use borrow.Author.Tests.{eqb-true, eqb-false}
 use Rattle.bits.specs.Digits.{value, Bits}
 use Rattle.bits.proofs.Digitals.{bits-take, bits-drop, bits-at}
+use Rattle.sequences.specs.Picture.{fixed, places}
 use Rattle.sequences.specs.Sequence.{fieldsRefusal}
 use Rattle.sequences.specs.Table.{fieldsIn}
 use Rattle.sequences.proofs.Sequences.{reads}
@@ -22,7 +23,7 @@ use Rattle.offset.specs.Signed.{signed}
 use Rattle.offset.specs.declared.reading.Reading.the-variants.{Hertz, Blank}
 use Rattle.offset.proofs.Readings.{blank-exactly, reading-exactly}
 use Rattle.offset.proofs.Signs.{sign-bit}
-use Rattle.info.specs.Frame.{fill, sync, fixed, places, framed}
+use Rattle.info.specs.Frame.{fill, sync, framed}
 use Rattle.info.specs.Info1c.{block, info1c, countOf, report}
 use Rattle.info.specs.declared.info1c.Report.{Report}
 use Rattle.info.proofs.Reports.{report-read, report-refused}

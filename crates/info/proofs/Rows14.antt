@@ -9,14 +9,14 @@ use native.Mathlib.Omega.{arith}
 use lib.ListN.{length, getD}
 use Rattle.laws.proofs.Bools.{and-both}
 use Rattle.bits.specs.Digits.{digits}
-use Rattle.sequences.specs.Picture.{free}
+use Rattle.sequences.specs.Picture.{fixed, places, free}
 use Rattle.sequences.specs.Table.{upTo, fieldsIn, fieldBits, inRange, isLaid, bitCount}
 use Rattle.sequences.specs.Sequence.{isWhole, fieldsRefusal, sequenceRefusal, sequenceOf}
 use Rattle.sequences.proofs.Listed.{one-by-one}
 use Rattle.sequences.proofs.Named.{Printed, read-as-printed}
 use Rattle.sequences.proofs.Named as named
 use Rattle.sequences.proofs.Tables.{range-at, lies-up-to, bit-is-digit}
-use Rattle.info.specs.Frame.{fill, sync, fixed, places, framed}
+use Rattle.info.specs.Frame.{fill, sync, framed}
 use Rattle.info.specs.Info0.{info0, numbersOf}
 use Rattle.info.specs.Table14.{Sayable, said, sequence14}
 use Rattle.info.specs.declared.info0.Info0.{Info0}

@@ -14,7 +14,7 @@ use borrow.Author.Tests.{lt-ltb}
 use Rattle.laws.proofs.Bools.{and-both}
 use Rattle.bits.specs.Digits.{value, digits}
 use Rattle.bits.proofs.Digitals.{bits-append, bits-digits, value-append, value-digits, digits-value}
-use Rattle.sequences.specs.Picture.{free}
+use Rattle.sequences.specs.Picture.{fixed, places, free}
 use Rattle.sequences.specs.Table.{Field, upTo, fieldBits, inRange, isLaid, bitCount}
 use Rattle.sequences.specs.Sequence.{isWhole, fieldsRefusal, sequenceRefusal, sequenceOf}
 use Rattle.sequences.proofs.Listed.{one-by-one}
@@ -23,7 +23,7 @@ use Rattle.sequences.proofs.Named as named
 use Rattle.sequences.proofs.Tables.{range-at, lies-up-to, bit-is-digit}
 use Rattle.offset.specs.Signed.{signed}
 use Rattle.offset.proofs.Signs.{unsigned-signed, signed-unsigned, held}
-use Rattle.info.specs.Frame.{fill, sync, fixed, places, framed}
+use Rattle.info.specs.Frame.{fill, sync, framed}
 use Rattle.info.specs.Info1c.{block, info1c, blockNumbers, numbersOf, fieldsOf, countOf, countBits}
 use Rattle.info.specs.Table15.{SayableBlock, Sayable, saidBlock, saidCount, said, sequence15}
 use Rattle.info.specs.declared.info1c.Block.{Block}

@@ -4,10 +4,11 @@ use mathlib.Core.List.{List}
 use mathlib.Core.Path.{_≡_, ap, _∙_}
 use Prim.Native.Nat.{ℕ}
 use lib.ListN.{length}
+use Rattle.sequences.specs.Picture.{fixed, places}
 use Rattle.sequences.specs.Sequence.{FieldsAnswer, SequenceAnswer}
 use Rattle.sequences.proofs.Named.{read-back}
 use Rattle.sequences.proofs.Trips.{fields-once, sequence-once, write-what-was-read}
-use Rattle.info.specs.Frame.{fill, sync, fixed, places, framed}
+use Rattle.info.specs.Frame.{fill, sync, framed}
 use Rattle.info.specs.Info0.{info0, numbersOf}
 use Rattle.info.specs.declared.info0.Info0.{Info0}
 use Rattle.info.specs.Table14.{Sayable, sequence14}

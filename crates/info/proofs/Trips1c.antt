@@ -5,10 +5,11 @@ use mathlib.Core.Path.{_≡_, ap}
 use Prim.Native.Nat.{ℕ}
 use lib.IntN.{ℤ}
 use lib.ListN.{length}
+use Rattle.sequences.specs.Picture.{fixed, places}
 use Rattle.sequences.specs.Sequence.{SequenceAnswer}
 use Rattle.sequences.proofs.Named.{printed-back, read-back, written-back}
 use Rattle.sequences.proofs.Trips.{sequence-once}
-use Rattle.info.specs.Frame.{fill, sync, fixed, places, framed}
+use Rattle.info.specs.Frame.{fill, sync, framed}
 use Rattle.info.specs.Info1c.{info1c, numbersOf, countBits, report}
 use Rattle.info.specs.Table15.{Sayable, sequence15}
 use Rattle.info.specs.declared.info1c.Info1c.{Info1c}

@@ -7,11 +7,11 @@ use lib.ListN.{set}
 use Rattle.laws.specs.Choice.{refusal}
 use Rattle.bits.specs.Digits.{value, allBits}
 use Rattle.sequences.specs.Register.{add, times, polynomial, step, feed, crc}
-use Rattle.sequences.specs.Picture.{inside, allHold}
+use Rattle.sequences.specs.Picture.{fixed, places, inside, allHold}
 use Rattle.sequences.specs.Sequence.{isSame, isSealed, fieldsTests, fieldsRefusal, sequenceOf}
 use Rattle.sequences.specs.Table.{fieldsIn, inRange, bitCount}
 use Rattle.sequences.proofs.Sequences.{reads, written-of-read}
-use Rattle.info.specs.Frame.{fill, sync, fixed, places, framed}
+use Rattle.info.specs.Frame.{fill, sync, framed}
 use Rattle.info.specs.Info0.{info0}
 use Rattle.info.proofs.Rows14.{whole0}
 

@@ -6,7 +6,7 @@
 --     the last four       fill, 1111
 use mathlib.Core.List.{List, [], _∷_, _++_}
 use Prim.Native.Nat.{ℕ, _+_}
-use lib.ListN.{replicate}
+use Rattle.sequences.specs.Picture.{fixed, places}
 use Rattle.sequences.specs.Register.{crc}
 
 unfoldable pub fill : List ℕ
@@ -18,14 +18,6 @@ sync = 0 ∷ 1 ∷ 1 ∷ 1 ∷ 0 ∷ 0 ∷ 1 ∷ 0 ∷ []
 -- the sequence whose bits of fields are these
 abbrev pub sent : List ℕ → List ℕ
 sent said = fill ++ (sync ++ (said ++ (crc said ++ fill)))
-
--- the picture of fixed bits, and of n free places, in the characters of Picture: 48 and 49, and 46
-unfoldable pub fixed : List ℕ → List ℕ
-fixed [] = []
-fixed (bit ∷ bits) = (48 + bit) ∷ fixed bits
-
-unfoldable pub places : ℕ → List ℕ
-places n = replicate n 46
 
 -- the picture with n bits of fields
 unfoldable pub framed : ℕ → List ℕ

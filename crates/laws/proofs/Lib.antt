@@ -12,6 +12,7 @@
 --     Counting    if each number is hit once, as many items are below s as s says
 --     Puts        a part put in a buffer: by a store, by a loan, behind a part
 --     Emits       lists made part by part, and a buffer that is filled with them
+--     Floats      one whole number over another as a float: rounded once, and never a NaN
 pub mod Bools
 pub mod Choices
 pub mod Sums
@@ -25,3 +26,4 @@ pub mod Orders
 pub mod Counting
 pub mod Puts
 pub mod Emits
+pub mod Floats

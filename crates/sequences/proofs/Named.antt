@@ -86,6 +86,11 @@ module _ {F : Type 0} (s : Sequence) (numbersOf : F → List ℕ) (fieldsOf : Li
       let numbers = ap (fieldsIn (s .table)) (sym same) ∙ fields-of-written s (p .whole) (numbersOf f) (p .count f) (p .ranged f h) in
       (read, ap fieldsOf (found ∙ numbers) ∙ p .fields-back f h)
 
+  -- so no two that may be said are printed alike
+  pub printed-once : (f g : F) → Sayable f → Sayable g → printed f ≡ printed g → f ≡ g
+  printed-once f g h k e =
+      sym (printed-back f h .1) ∙ (ap (λ (bits : List ℕ). fieldsOf (fieldsRead s bits)) e ∙ printed-back g k .1)
+
   -- there and back
   module _ (bits : List ℕ) where
     reader : FieldsAnswer s bits (fieldsRefusal s bits) (fieldsRead s bits)

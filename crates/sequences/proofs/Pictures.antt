@@ -10,7 +10,7 @@ use lib.ListN.{length, getD, take, drop}
 use Rattle.laws.proofs.Bools.{and-parts, and-both}
 use Rattle.bits.specs.Digits.{Bits}
 use Rattle.bits.proofs.Digitals.{bits-at, bits-drop}
-use Rattle.sequences.specs.Picture.{isFree, free, inside, around, allHold}
+use Rattle.sequences.specs.Picture.{places, isFree, free, inside, around, allHold}
 
 -- a place that is free or not, and those behind it: how many are free, what stands in the free ones, the sequence around a body, the test
 abbrev counted : Bool → List ℕ → ℕ
@@ -163,3 +163,14 @@ all-free (suc n) (place ∷ picture) (bit ∷ bits) e l f = go (isFree place) f 
         → gathered v bit (inside picture bits) ≡ bit ∷ (take n bits ++ inside (drop n picture) (drop n bits))
     go true k again = ap (λ (x : List ℕ). bit ∷ x) (again (omega arith))
     go false k again = absurd (omega (arith, free-most n picture))
+
+-- free places take the front of a body, which is as long
+pub around-places :
+    (n : ℕ) (picture front body : List ℕ) → length front ≡ n
+    → around (places n ++ picture) (front ++ body) ≡ front ++ around picture body
+unfolding places around
+around-places zero picture [] body e = refl
+around-places zero picture (bit ∷ front) body e = absurd (omega arith)
+around-places (suc n) picture [] body e = absurd (omega arith)
+around-places (suc n) picture (bit ∷ front) body e =
+    ap (λ (l : List ℕ). bit ∷ l) (around-places n picture front body (omega arith))

@@ -6,9 +6,17 @@
 --     inside              a b c   d
 use mathlib.Core.Bool.{Bool, true, false, _&&_, cond}
 use mathlib.Core.List.{List, [], _∷_}
-use Prim.Native.Nat.{ℕ, suc, _%_}
+use Prim.Native.Nat.{ℕ, suc, _+_, _%_}
 use lib.Dec.{eqb}
-use lib.ListN.{getD, drop}
+use lib.ListN.{getD, drop, replicate}
+
+-- the picture of fixed bits, and of n free places
+unfoldable pub fixed : List ℕ → List ℕ
+fixed [] = []
+fixed (bit ∷ bits) = (48 + bit) ∷ fixed bits
+
+unfoldable pub places : ℕ → List ℕ
+places n = replicate n 46
 
 -- whether a place is free
 abbrev pub isFree : ℕ → Bool

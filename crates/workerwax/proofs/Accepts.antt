@@ -33,10 +33,11 @@ use Rattle.line.specs.declared.settings.Settings.{Settings}
 use Rattle.line.specs.declared.settings.Worked.the-variants.{Accepted}
 use Rattle.line.specs.Settings.{workedOf, numberOf}
 use Rattle.line.proofs.Acceptance.{Right, unrefused-right, right-unrefused, number-is}
+use Rattle.sequences.specs.Picture.{fixed, places}
 use Rattle.sequences.specs.Sequence.{Sequence}
 use Rattle.offset.specs.Signed.{unsigned}
 use Rattle.sequences.proofs.Named.{Printed, reads-exactly, numbers-exactly}
-use Rattle.info.specs.Frame.{fill, sync, fixed, places, framed}
+use Rattle.info.specs.Frame.{fill, sync, framed}
 use Rattle.info.specs.Info0.{info0, numbersOf}
 use Rattle.info.specs.Table14.{Sayable, sequence14}
 use Rattle.info.specs.declared.info0.Info0.{Info0}

@@ -9,12 +9,13 @@ use Prim.Native.Nat.{ℕ}
 use lib.IntN.{ℤ}
 use lib.ListN.{length, take}
 use Rattle.laws.specs.Lists.{Every}
+use Rattle.sequences.specs.Picture.{fixed, places}
 use Rattle.sequences.specs.Table.{fieldsIn, inRange}
 use Rattle.sequences.specs.Sequence.{Sequence, fieldsRefusal, sequenceRefusal, fieldsRead}
 use Rattle.sequences.proofs.Sequences.{writes}
 use Rattle.sequences.proofs.Trips as trips
 use Rattle.offset.specs.Signed.{signed, unsigned}
-use Rattle.info.specs.Frame.{fill, sync, fixed, places, framed}
+use Rattle.info.specs.Frame.{fill, sync, framed}
 use Rattle.info.specs.Info0.{info0}
 use Rattle.info.specs.Info1c.{info1c, numbersOf}
 use Rattle.info.specs.Table15.{Sayable}

@@ -19,6 +19,7 @@
 --     Infos        the calls of any sequence by their ways out, and what the reader and the writer below them did
 -- and for the theorems
 --     Carried      how the numbers of a sequence's fields are carried in bytes, and what an answer tells
+--     Doubles      the eight bytes of a double
 --     Below        a call of ww_write or ww_read, and what the coder below it did
 pub mod Outcomes
 pub mod Accepts
@@ -38,4 +39,5 @@ pub mod Ways
 pub mod Coding
 pub mod Infos
 pub mod Carried
+pub mod Doubles
 pub mod Below

@@ -1,11 +1,10 @@
 -- INFO1c in bytes. A report begins with the 22 numbers that ww_info1c_write takes, in which the count of the frequency offset has 32 bits;
 -- behind them stand a flag and the eight bytes of the hertz, lowest first. So the count, whether there is a reading, and the reading are in
 -- the bytes what Table 15 and one division by 50 make them. Assumes nothing.
-use mathlib.Core.List.{List, [], _∷_, _++_, append-nil}
+use mathlib.Core.List.{List, [], _∷_, _++_}
 use mathlib.Core.Logic.{_↔_}
 use mathlib.Core.Path.{_≡_, refl, sym, ap, ap₂, subst, _∙_}
-use Prim.Native.Nat.{ℕ, zero, suc, _+_, _*_, _/_, _%_, _≤_, _<_}
-use native.Mathlib.Nat.{add-mul-mod-self-left, div-div-eq-div-mul}
+use Prim.Native.Nat.{ℕ, _≤_, _<_}
 use native.Mathlib.Omega.{arith}
 use lib.Ieee.{binary64, div, ofInt, toBits}
 use lib.IntN.{ℤ, pos, negsuc}
@@ -30,8 +29,9 @@ use Rattle.info.specs.declared.info1c.Report.{Report}
 use Rattle.info.proofs.Reports.{report-read, count-held}
 use Rattle.info.proofs.Rows15.{whole1c, last-held, Said, numbersSaid, MaySay, printed15}
 use Rattle.workerwax.specs.Info.{in32, countIn32, countIn10, halves, readingNumbers, reported, Info1cReadCall}
-use Rattle.workerwax.specs.Layout.{word, words, numbersIn, info1cBytes, reportBytes}
+use Rattle.workerwax.specs.Layout.{words, numbersIn, info1cBytes, reportBytes}
 use Rattle.workerwax.proofs.Carried.{Carried, Counted, Ranged, ranges-short}
+use Rattle.workerwax.proofs.Doubles.{lowestFirst, halves-lowest}
 use Rattle.workerwax.proofs.Infos.{read-zero, read-shown}
 use Rattle.workerwax.proofs.Layouts.{length-words, words-append}
 use Rattle.workerwax.proofs.Undone.{FourBytes, numbers-back}
@@ -119,36 +119,6 @@ flagIn report = getD (numbersIn report) 22 0
 
 abbrev pub hertzIn : List ℕ → List ℕ
 hertzIn report = drop 92 report
-
--- so many bytes of a number, lowest first
-abbrev pub lowestFirst : ℕ → ℕ → List ℕ
-lowestFirst zero n = []
-lowestFirst (suc k) n = n % 256 ∷ lowestFirst k (n / 256)
-
--- the two halves of a number are its eight bytes
-word-lowest : (n : ℕ) → word n ≡ lowestFirst 4 n
-unfolding word
-word-lowest n = rw (div-div-eq-div-mul n 256 256, div-div-eq-div-mul n 65536 256)
-
--- whatever stands above so many bytes does not show in them
-abbrev above : ℕ → ℕ → ℕ
-above zero n = n
-above (suc k) n = 256 * above k n
-
-lowest-alone : (k m n : ℕ) → lowestFirst k (m + above k n) ≡ lowestFirst k m
-lowest-alone zero m n = refl
-lowest-alone (suc k) m n =
-    let next : (m + 256 * above k n) / 256 ≡ m / 256 + above k n = omega arith in
-    ap₂ _∷_ (add-mul-mod-self-left m 256 (above k n)) (ap (lowestFirst k) next ∙ lowest-alone k (m / 256) n)
-
-halves-lowest : (n : ℕ) → words (halves n) ≡ lowestFirst 8 n
-unfolding words
-halves-lowest n =
-    let upper : n / 4294967296 ≡ n / 256 / 256 / 256 / 256 = omega arith in
-    let whole : n ≡ n % 4294967296 + above 4 (n / 4294967296) = omega arith in
-    let lower = ap (lowestFirst 4) whole ∙ lowest-alone 4 (n % 4294967296) (n / 4294967296) in
-    ap₂ _++_ (word-lowest (n % 4294967296) ∙ sym lower)
-    (append-nil (word (n / 4294967296)) ∙ (word-lowest (n / 4294967296) ∙ ap (lowestFirst 4) upper))
 
 module _ (bits lent : List ℕ) (r : ℕ) (after : List ℕ) (call : Info1cReadCall bits lent r after) (zero : r ≡ 0) where
   abbrev numbers : List ℕ

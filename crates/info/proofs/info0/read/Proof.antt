@@ -2,12 +2,12 @@
 -- nothing.
 use mathlib.Core.Path.{refl, sym, _∙_}
 use borrow.Author.Needs.{needs}
-use Rattle.sequences.specs.Picture.{free}
+use Rattle.sequences.specs.Picture.{fixed, places, free}
 use Rattle.sequences.specs.Sequence.{isWhole}
 use Rattle.sequences.specs.Table.{isLaid, bitCount}
 use Rattle.sequences.proofs.Trips.{answer-fields, answer-zeros}
 use Rattle.fields.specs.Requires.{isNarrow, rows}
-use Rattle.info.specs.Frame.{fill, sync, fixed, places, framed}
+use Rattle.info.specs.Frame.{fill, sync, framed}
 use Rattle.info.specs.Info0.{info0}
 use Rattle.info.proofs.info0.read.Statement.{statement}
 use Rattle.info.proofs.info0.read.Tie as tie

@@ -3,12 +3,12 @@
 use mathlib.Core.Path.{refl, sym, ap}
 use borrow.Author.Needs.{needs}
 use lib.ListN.{length}
-use Rattle.sequences.specs.Picture.{free}
+use Rattle.sequences.specs.Picture.{fixed, places, free}
 use Rattle.sequences.specs.Sequence.{isWhole}
 use Rattle.sequences.specs.Table.{isLaid, bitCount}
 use Rattle.sequences.proofs.Trips.{answer-same}
 use Rattle.fields.specs.Requires.{isNarrow, rows}
-use Rattle.info.specs.Frame.{fill, sync, fixed, places, framed}
+use Rattle.info.specs.Frame.{fill, sync, framed}
 use Rattle.info.specs.Info0.{info0}
 use Rattle.info.proofs.info0.write.Statement.{statement}
 use Rattle.info.proofs.info0.write.Tie as tie

@@ -8,12 +8,12 @@ use borrow.Author.Needs.{needs}
 use lib.ListN.{getD}
 use mir.Syntax.{w32}
 use mir.ValLaws.{toZ-ofZ}
-use Rattle.sequences.specs.Picture.{free}
+use Rattle.sequences.specs.Picture.{fixed, places, free}
 use Rattle.sequences.specs.Sequence.{isWhole, fieldsRefusal}
 use Rattle.sequences.specs.Table.{isLaid, bitCount}
 use Rattle.fields.specs.Requires.{isNarrow, rows}
 use Rattle.offset.specs.Hertz.{readingOf}
-use Rattle.info.specs.Frame.{fill, sync, fixed, places, framed}
+use Rattle.info.specs.Frame.{fill, sync, framed}
 use Rattle.info.specs.Info1c.{block, info1c}
 use Rattle.info.proofs.Reports.{count-held, answer-refused, answer-read}
 use Rattle.info.proofs.info1c.read.Statement.{statement}

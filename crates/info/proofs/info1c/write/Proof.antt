@@ -6,13 +6,13 @@ use lib.ListN.{length}
 use mir.Syntax.{w32}
 use mir.Val.{toZ, ofZ}
 use mir.ValLaws.{toZ-ofZ}
-use Rattle.sequences.specs.Picture.{free}
+use Rattle.sequences.specs.Picture.{fixed, places, free}
 use Rattle.sequences.specs.Sequence.{isWhole}
 use Rattle.sequences.specs.Table.{isLaid, bitCount}
 use Rattle.sequences.proofs.Trips.{answer-same}
 use Rattle.fields.specs.Requires.{isNarrow, rows}
 use Rattle.offset.specs.Signed.{unsigned}
-use Rattle.info.specs.Frame.{fill, sync, fixed, places, framed}
+use Rattle.info.specs.Frame.{fill, sync, framed}
 use Rattle.info.specs.Info1c.{block, info1c, numbersOf}
 use Rattle.info.proofs.info1c.write.Statement.{statement}
 use Rattle.info.proofs.info1c.write.Tie as tie
