@@ -1,6 +1,6 @@
 /*
  * header.c: the functions that include/workerwax.h has itself, which no library proves: what they give, on both sides of
- * their limits, and that they touch four bytes and no more.
+ * their limits, and that they touch the bytes of their place and no others.
  *
  * It is C and C++ at once, and tools/host-tests compiles it as both.
  */
@@ -102,6 +102,53 @@ static void signed_numbers_have_their_bytes(void)
     }
 }
 
+/* A double by bytes that are written out, at every place: it goes by its own eight, whatever stands around them. */
+static void doubles_are_taken_out(void)
+{
+    static const uint8_t bytes[5][8] = {{0xF6, 0x28, 0x5C, 0x8F, 0xC2, 0xF5, 0xF0, 0xBF},
+                                        {0x71, 0x3D, 0x0A, 0xD7, 0xA3, 0x70, 0x24, 0x40},
+                                        {0, 0, 0, 0, 0, 0, 0, 0x80},
+                                        {1, 0, 0, 0, 0, 0, 0xF0, 0x3F},
+                                        {0xFF, 0xFF, 0xFF, 0xFF, 0xFF, 0xFF, 0xEF, 0x3F}};
+    static const double due[5] = {-1.06, 10.22, -0.0, 1.0000000000000002, 0.9999999999999999};
+    uint8_t answer[4 * NUMBERS];
+    size_t i, place;
+    for (i = 0; i < 5; i++) {
+        for (place = 0; place + 2 <= NUMBERS; place++) {
+            double low, high;
+            memset(answer, 0, sizeof answer);
+            memcpy(answer + 4 * place, bytes[i], 8);
+            low = ww_double(answer, place);
+            memset(answer, 255, sizeof answer);
+            memcpy(answer + 4 * place, bytes[i], 8);
+            high = ww_double(answer, place);
+            check(memcmp(&low, &due[i], 8) == 0 && memcmp(&high, &due[i], 8) == 0, "ww_double", (int64_t)i);
+        }
+    }
+}
+
+/* Answers of ww_jp_read, byte by byte: the numbers and the part that a host takes out of them. */
+static void parts_are_taken_out(void)
+{
+    static const uint8_t answers[5][WW_JP_BYTES] = {
+        {0, 0, 0, 0, 0, 0, 0, 0, 0, 0, 0, 0, 0, 0, 0, 0, 0, 0, 0, 0},
+        {1, 0, 0, 0, 0, 0, 0, 0, 1, 0, 0, 0, 0, 0, 0, 0, 0, 0, 0xF0, 0x3E},
+        {0, 0x80, 0, 0, 1, 0, 0, 0, 0, 0, 0, 0, 0, 0, 0, 0, 0, 0, 0xE0, 0x3F},
+        {0xC5, 0xB4, 0, 0, 1, 0, 0, 0, 0, 0, 0, 0, 0, 0, 0, 0, 0xA0, 0x98, 0xE6, 0x3F},
+        {0xFF, 0xFF, 0, 0, 1, 0, 0, 0, 1, 0, 0, 0, 0, 0, 0, 0, 0xE0, 0xFF, 0xEF, 0x3F}};
+    static const uint32_t fraction[5] = {0, 1, 32768, 46277, 65535};
+    static const uint32_t training[5] = {0, 0, 1, 1, 1}, renegotiation[5] = {0, 1, 0, 0, 1};
+    static const double part[5] = {0.0, 0.0000152587890625, 0.5, 0.7061309814453125, 0.9999847412109375};
+    size_t i;
+    for (i = 0; i < 5; i++) {
+        const double taken = ww_jp_part(answers[i]);
+        check(memcmp(&taken, &part[i], 8) == 0, "ww_jp_part", fraction[i]);
+        check(ww_number(answers[i], WW_JP_FRACTION) == fraction[i], "the place of Jp's fraction", fraction[i]);
+        check(ww_number(answers[i], WW_JP_TRAINING) == training[i] &&
+              ww_number(answers[i], WW_JP_RENEGOTIATION) == renegotiation[i], "the places of Jp's sizes", fraction[i]);
+    }
+}
+
 /* Where there is a reading its eight bytes are the double, and where there is none the double is left as it was. */
 static void hertz_are_taken_out(void)
 {
@@ -138,9 +185,12 @@ static void getters_are_the_macros(void)
     check(ww_info0_bits() == WW_INFO0_BITS && ww_info0_bytes() == WW_INFO0_BYTES, "a getter", 5);
     check(ww_info1c_bits() == WW_INFO1C_BITS && ww_info1c_bytes() == WW_INFO1C_BYTES, "a getter", 6);
     check(ww_info1c_report_bytes() == WW_INFO1C_REPORT_BYTES, "a getter", 7);
+    check(ww_jp_bits() == WW_JP_BITS && ww_jp_bytes() == WW_JP_BYTES, "a getter", 8);
     check(WW_INFO0_BYTES == 4 * WW_INFO0_FIELDS && WW_INFO1C_BYTES == 4 * WW_INFO1C_FIELDS, "the places and a length", 0);
     check(WW_INFO1C_RATE(5) + 1 == WW_INFO1C_COUNT && WW_INFO1C_REPORT_BYTES == 4 * (WW_INFO1C_READING + 3),
           "the places and a length", 1);
+    check(WW_JP_RENEGOTIATION + 1 == WW_JP_FIELDS && WW_JP_PART == WW_JP_FIELDS && WW_JP_BYTES == 4 * (WW_JP_PART + 2),
+          "the places and a length", 2);
 }
 
 int main(void)
@@ -148,6 +198,8 @@ int main(void)
     numbers_are_put();
     signed_numbers_are_put();
     signed_numbers_have_their_bytes();
+    doubles_are_taken_out();
+    parts_are_taken_out();
     hertz_are_taken_out();
     getters_are_the_macros();
     printf("%8" PRIu64 "  facts of the header's own functions\n", checks);

@@ -8,8 +8,9 @@
  * inverse. Trellis coder, precoder, non-linear coder, auxiliary channel and start-up signalling are the caller's.
  *
  * So that settings come from the line and not from a binder, the INFO0 and INFO1c sequences are read and written (clause
- * 10.1.2.3, Tables 14 and 15): from INFO0 comes the mark, from INFO1c what is proposed for each symbol rate. The caller
- * sends and receives their bits.
+ * 10.1.2.3, Tables 14 and 15): from INFO0 comes the mark, from INFO1c what is proposed for each symbol rate. The Jp
+ * sequence of ITU-T V.92 (11/2000), Table 22, is read and written too, for lines with a digital end: the digital modem
+ * sends it to the analogue one. The caller sends and receives the bits of all three.
  *
  * How does it work?
  *
@@ -33,11 +34,11 @@
  *
  * Answers. What else there is to say goes into the lent answer: numbers of 32 bits, four bytes each, low byte first, in
  * the order given at the call. ww_number takes one out. Its places are the WW_PARAMETERS_.., WW_STATE_.., WW_INFO0_..,
- * WW_INFO1C_.. below. A number that may be negative is in two's complement: ww_signed_number takes it out. A number that
- * is no whole one stands behind the others, as the eight bytes of an IEEE 754 double, low byte first, and has a getter of
- * its own.
- * Fields that are handed in have the layout in which they are answered, so what was read can be written as it is;
- * ww_put_number and ww_put_signed_number put one number there.
+ * WW_INFO1C_.., WW_JP_.. below. A number that may be negative is in two's complement: ww_signed_number takes it out. A number
+ * that is no whole one stands behind the others, as the eight bytes of an IEEE 754 double, low byte first, and has a getter
+ * of its own.
+ * Fields that are handed in as a slice have the layout in which they are answered, so what was read can be written as it
+ * is; ww_put_number and ww_put_signed_number put one number there.
  */
 #ifndef WORKERWAX_H
 #define WORKERWAX_H
@@ -51,8 +52,8 @@ extern "C" {
 #endif
 
 #define WW_VERSION_MAJOR 0
-#define WW_VERSION_MINOR 3
-#define WW_VERSION_STRING "0.3"
+#define WW_VERSION_MINOR 4
+#define WW_VERSION_STRING "0.4"
 
 /* A refusal that nobody looks at is taken for success, and an offset that was not measured for one that was. */
 #if defined(__GNUC__) || defined(__clang__)
@@ -77,7 +78,7 @@ extern "C" {
 #define WW_BAD_STEP 12u       /* reader: the Z steps give I3 = 1 where the frame carries none (clause 9.3.2) */
 #define WW_BAD_COUNTS 13u     /* K is above 31, M is not 1 to 18, or 2^K is above M^8 */
 #define WW_BAD_NUMBER 14u     /* the number to be mapped is not below 2^K */
-#define WW_BAD_SYNC 16u       /* a bit of fill or sync is not the one that always stands there */
+#define WW_BAD_SYNC 16u       /* a bit of fill or sync, or a start bit, is not the one that always stands there */
 #define WW_BAD_CRC 17u        /* the CRC is not that of the fields: the sequence was damaged on its way */
 #define WW_BAD_FIELD 18u      /* a field is out of its range, or is more than its bits can hold */
 
@@ -114,6 +115,8 @@ extern "C" {
 #define WW_INFO1C_BITS 109         /* bits of an INFO1c sequence, one to a byte, bit 0 first */
 #define WW_INFO1C_BYTES 88         /* fields of ww_info1c_write: the report's first bytes */
 #define WW_INFO1C_REPORT_BYTES 100 /* report of ww_info1c_read: the fields, and then the reading */
+#define WW_JP_BITS 72              /* bits of a Jp sequence, one to a byte, bit 0 first */
+#define WW_JP_BYTES 20             /* answer of ww_jp_read */
 
 /* The most that a data frame has, over all settings. The exact lengths are N and 32*P, for the N and P of ww_parameters. */
 #define WW_MAX_BITS 1248        /* bits, one to a byte: s 4, n 13 */
@@ -131,6 +134,8 @@ static inline size_t ww_info0_bytes(void) { return WW_INFO0_BYTES; }
 static inline size_t ww_info1c_bits(void) { return WW_INFO1C_BITS; }
 static inline size_t ww_info1c_bytes(void) { return WW_INFO1C_BYTES; }
 static inline size_t ww_info1c_report_bytes(void) { return WW_INFO1C_REPORT_BYTES; }
+static inline size_t ww_jp_bits(void) { return WW_JP_BITS; }
+static inline size_t ww_jp_bytes(void) { return WW_JP_BYTES; }
 static inline size_t ww_max_bits(void) { return WW_MAX_BITS; }
 static inline size_t ww_max_labels_bytes(void) { return WW_MAX_LABELS_BYTES; }
 
@@ -192,6 +197,18 @@ static inline size_t ww_max_labels_bytes(void) { return WW_MAX_LABELS_BYTES; }
 #define WW_INFO1C_READING 22             /* in the report, behind the fields: 1 where there is a reading of the offset in
                                             hertz, 0 where there is none; ww_info1c_hertz takes it out */
 
+/*
+ * Places of the numbers in the answer of ww_jp_read, in the order of V.92's Table 22, which is also the order in which
+ * ww_jp_write takes them. The digital modem sends Jp; both sizes are for the signals CPu, E2u, SUVu and TRN2u of the analogue
+ * one, and are 0 for four points and 1 for eight.
+ */
+#define WW_JP_FRACTION 0      /* bits 18 to 33: by how much of a symbol the signal Su, inverted, is to be extended, in
+                                 65,536ths, 0 to 65535 */
+#define WW_JP_TRAINING 1      /* bit 48: size of the constellation in the training sequences */
+#define WW_JP_RENEGOTIATION 2 /* bit 49: size of the constellation in rate renegotiations */
+#define WW_JP_FIELDS 3        /* of them there are so many */
+#define WW_JP_PART 3          /* behind them: the fraction as a part of a symbol; ww_jp_part takes it out */
+
 /* The numbers of a state, and the settings alone, as the arguments of a call. */
 #define WW_STATE(x) (x)[0], (x)[1], (x)[2], (x)[3], (x)[4], (x)[5], (x)[6]
 #define WW_SETTINGS(x) (x)[0], (x)[1], (x)[2], (x)[3], (x)[4]
@@ -209,6 +226,22 @@ static inline int32_t ww_signed_number(const uint8_t *answer, size_t place)
     const uint32_t number = ww_number(answer, place);
     return number <= 0x7fffffffu ? (int32_t)number : -1 - (int32_t)(0xffffffffu - number);
 }
+
+/*
+ * The double that stands in an answer at a place and the one behind it: the lower half of its eight bytes, then the upper.
+ * Both places must be within the answer.
+ */
+static inline double ww_double(const uint8_t *answer, size_t place)
+{
+    const uint64_t low = ww_number(answer, place), high = ww_number(answer, place + 1);
+    const uint64_t eight_bytes = high << 32 | low;
+    double number;
+    memcpy(&number, &eight_bytes, sizeof number);
+    return number;
+}
+
+/* Does not compile where a double has not eight bytes. */
+typedef char ww_a_double_has_eight_bytes[sizeof(double) == 8 ? 1 : -1];
 
 /*
  * Puts a number at a place of fields that are handed in. One that 32 bits can't hold is put as 2^31 - 1, which no field
@@ -383,17 +416,44 @@ uint32_t ww_info1c_write(const uint8_t *fields, size_t fields_length, uint8_t *b
  */
 static inline WW_MUST_USE int ww_info1c_hertz(const uint8_t *report, double *hertz)
 {
-    const uint64_t low = ww_number(report, WW_INFO1C_READING + 1), high = ww_number(report, WW_INFO1C_READING + 2);
-    const uint64_t eight_bytes = high << 32 | low;
     if (ww_number(report, WW_INFO1C_READING) != 1) {
         return 0;
     }
-    memcpy(hertz, &eight_bytes, sizeof eight_bytes);
+    *hertz = ww_double(report, WW_INFO1C_READING + 1);
     return 1;
 }
 
-/* Does not compile where a double has not the eight bytes that ww_info1c_hertz fills. */
-typedef char ww_a_double_has_eight_bytes[sizeof(double) == 8 ? 1 : -1];
+/*
+ * ww_jp_read: what a Jp sequence that was received says (V.92, clause 8.6.3, Table 22). The bits are only read.
+ *
+ * The reserved bits, 35 to 46 and 50, must be bits (9) and are under the CRC; otherwise they are not looked at. Bit 47 is 1
+ * in a Jp, and 0 in the sequence Jd, which is as long and says something else: it is not read here.
+ *
+ * Owed: bits of WW_JP_BITS, in the order in which they were received, each 0 or 1; answer of WW_JP_BYTES.
+ * Given: the fraction and both sizes, in the order of the WW_JP_.. places; behind them the fraction over 65,536, a double,
+ * which is exact.
+ * Refused: 8 (either length), then 9 (anywhere in the sequence), then 16 (sync, fill, or a start bit), then 17, then 18
+ * (bit 47 is 0).
+ */
+uint32_t ww_jp_read(const uint8_t *bits, size_t bits_length, uint8_t *answer, size_t answer_length) WW_MUST_USE;
+
+/*
+ * ww_jp_write: the Jp sequence of a fraction and both sizes, in the order of the WW_JP_.. places. What it gives is read by
+ * ww_jp_read with the same three numbers. Written again, what was read gives the same bits exactly where its reserved bits
+ * were 0.
+ *
+ * Owed: bits of WW_JP_BITS.
+ * Given: the bits, one to a byte, in the order in which they are to be sent; the reserved ones are 0.
+ * Refused: 8, then 18 (the fraction is above 65535, or a size is above 1).
+ */
+uint32_t ww_jp_write(uint64_t fraction, uint64_t training, uint64_t renegotiation,
+                     uint8_t *bits, size_t bits_length) WW_MUST_USE;
+
+/* The fraction of an answer that ww_jp_read gave as a part of a symbol: from 0 on, and below 1. */
+static inline double ww_jp_part(const uint8_t *answer)
+{
+    return ww_double(answer, WW_JP_PART);
+}
 
 #ifdef __cplusplus
 }

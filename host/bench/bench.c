@@ -18,9 +18,13 @@
 
 const struct side bench_sides[SIDES] = {
     {"library", ww_map, ww_rank, ww_write, ww_read,
-     {[INFO0] = {ww_info0_read, ww_info0_write}, [INFO1C] = {ww_info1c_read, ww_info1c_write}}},
+     {[INFO0] = {ww_info0_read, ww_info0_write, NULL},
+      [INFO1C] = {ww_info1c_read, ww_info1c_write, NULL},
+      [JP] = {ww_jp_read, NULL, ww_jp_write}}},
     {"plain", second_map, second_rank, second_write, second_read,
-     {[INFO0] = {second_info0_read, second_info0_write}, [INFO1C] = {second_info1c_read, second_info1c_write}}},
+     {[INFO0] = {second_info0_read, second_info0_write, NULL},
+      [INFO1C] = {second_info1c_read, second_info1c_write, NULL},
+      [JP] = {second_jp_read, NULL, second_jp_write}}},
 };
 
 #define RINGS(k, m) \
@@ -46,6 +50,7 @@ static const struct row rows[] = {
     FRAMES("s0 n1 minimum", 0, 0, 1, 0), /* no S, so little to do: what a call costs at least */
     SEQUENCE("info0", INFO0),
     SEQUENCE("info1c", INFO1C),
+    SEQUENCE("jp", JP),
 };
 
 /*

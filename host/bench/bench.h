@@ -22,9 +22,10 @@ typedef uint32_t data_call(uint64_t role, uint64_t s, uint64_t n, uint64_t shapi
                            const uint8_t *from, size_t from_length, uint8_t *to, size_t to_length,
                            uint8_t *answer, size_t answer_length);
 typedef uint32_t sequence_call(const uint8_t *from, size_t from_length, uint8_t *to, size_t to_length);
+typedef uint32_t numbers_call(uint64_t first, uint64_t second, uint64_t third, uint8_t *to, size_t to_length);
 
 enum { LIBRARY, PLAIN, SIDES };
-enum { INFO0, INFO1C, SEQUENCES };
+enum { INFO0, INFO1C, JP, SEQUENCES };
 
 struct side {
     const char *name;
@@ -33,6 +34,7 @@ struct side {
     data_call *write, *read;
     struct {
         sequence_call *read, *write;
+        numbers_call *write_numbers; /* where the writer takes its fields as numbers; write is null then */
     } sequence[SEQUENCES];
 };
 

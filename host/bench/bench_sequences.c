@@ -18,7 +18,7 @@
 
 struct sequence {
     uint8_t bits[MOST_BITS];
-    uint8_t answer[MOST_ANSWER_BYTES]; /* of the reader; the writer takes its first bytes */
+    uint8_t answer[MOST_ANSWER_BYTES]; /* of the reader; the writer takes its first numbers */
 };
 
 struct kind {
@@ -51,16 +51,27 @@ static int64_t draw_info1c(size_t place)
     }
 }
 
+static int64_t draw_jp(size_t place)
+{
+    return up_to(place == WW_JP_FRACTION ? 65535 : 1);
+}
+
 static const struct kind kinds[SEQUENCES] = {
     [INFO0] = {WW_INFO0_BITS, WW_INFO0_FIELDS, WW_INFO0_BYTES, WW_INFO0_BYTES, draw_info0},
     [INFO1C] = {WW_INFO1C_BITS, WW_INFO1C_FIELDS, WW_INFO1C_BYTES, WW_INFO1C_REPORT_BYTES, draw_info1c},
+    [JP] = {WW_JP_BITS, WW_JP_FIELDS, 4 * WW_JP_FIELDS, WW_JP_BYTES, draw_jp},
 };
 
 static int write_one(const struct row *row, int side, const struct sequence *from, struct sequence *to)
 {
     const struct kind *kind = &kinds[row->numbers[0]];
+    const uint8_t *fields = from->answer;
     sequence_call *write = bench_sides[side].sequence[row->numbers[0]].write;
-    return write(from->answer, kind->fields_bytes, to->bits, kind->bits) == WW_DONE;
+    numbers_call *write_numbers = bench_sides[side].sequence[row->numbers[0]].write_numbers;
+    if (write != NULL) {
+        return write(fields, kind->fields_bytes, to->bits, kind->bits) == WW_DONE;
+    }
+    return write_numbers(ww_number(fields, 0), ww_number(fields, 1), ww_number(fields, 2), to->bits, kind->bits) == WW_DONE;
 }
 
 static int read_one(const struct row *row, int side, const struct sequence *from, struct sequence *to)

@@ -183,6 +183,11 @@ const uint8_t *compared(size_t slice)
     return lent[LIBRARY][slice].bytes;
 }
 
+const uint8_t *given(void)
+{
+    return compared(shapes[current.entry].slices - 1);
+}
+
 void demand(int fact, const char *what)
 {
     if (!fact) {

@@ -33,7 +33,10 @@ union slices_of_calls {
 
 enum { MOST_NUMBERS = sizeof(union numbers_of_calls) - 1, MOST_SLICES = sizeof(union slices_of_calls) - 1 };
 
-/* The places of the slices of writers and readers, of sequences too, and of the ranker. The others have one slice, at 0. */
+/*
+ * The places of the slices of writers and readers, of sequences too where they have two, and of the ranker. The others have
+ * one slice, at 0.
+ */
 enum { FROM = 0, TO = 1, ANSWER = 2, RANK_ANSWER = 1 };
 
 struct slice {
@@ -61,8 +64,9 @@ void calls_open(void);
 /* Compares, counts for the group, and gives the number that came back. */
 uint32_t compare(struct tally *tally, const struct call *call, uint32_t expected);
 
-/* After a comparison: what a slice holds. Good until the next one. */
+/* After a comparison: what a slice holds, and the last one, which is lent for writing. Good until the next one. */
 const uint8_t *compared(size_t slice);
+const uint8_t *given(void);
 
 /* Demands a fact that the last comparison bears on. Where it fails the call is printed and the program ends. */
 void demand(int fact, const char *what);

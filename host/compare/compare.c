@@ -27,6 +27,7 @@ static struct group groups[] = {
     {compare_ties, {"several faults at once", 0, 60000}},
     {compare_info0, {"INFO0, all 131,072 bodies there and back", 0, 262144}},
     {compare_info1c, {"INFO1c, all 1,024 counts there and back, and counts around them", 0, 23304}},
+    {compare_jp, {"Jp, all 262,144 that can be written there and back, all reserved bits, and wide numbers", 0, 730496}},
 };
 
 struct sequence_group {
@@ -44,6 +45,10 @@ static struct sequence_group sequence_groups[] = {
     {compare_sequences_damage, &info1c, {"INFO1c with bits turned, in bursts too, and bytes that are no bits", 0, 226668}},
     {compare_sequences_lengths, &info1c, {"INFO1c with wrong lengths", 0, 2494}},
     {compare_sequences_ties, &info1c, {"INFO1c with several faults at once", 0, 20000}},
+    {compare_sequences, &jp, {"Jp, worked sequences, fields in and out of range, random ones", 0, 165900}},
+    {compare_sequences_damage, &jp, {"Jp with bits turned, in bursts too, and bytes that are no bits", 0, 132368}},
+    {compare_sequences_lengths, &jp, {"Jp with wrong lengths", 0, 883}},
+    {compare_sequences_ties, &jp, {"Jp with several faults at once", 0, 20000}},
 };
 
 #define COUNT_OF(groups) (sizeof groups / sizeof groups[0])

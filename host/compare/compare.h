@@ -14,6 +14,7 @@ void compare_lengths(struct tally *tally);
 void compare_ties(struct tally *tally);
 void compare_info0(struct tally *tally);
 void compare_info1c(struct tally *tally);
+void compare_jp(struct tally *tally);
 
 /* The groups that are made for each kind of sequence. */
 void compare_sequences(struct tally *tally, const struct kind *kind);

@@ -40,7 +40,7 @@ static void fields_over_their_bits(struct tally *tally, const struct kind *kind)
     struct sequence sequence;
     size_t place;
     int64_t number;
-    for (place = 0; place < kind->fields; place++) {
+    for (place = 0; place < all_fields(kind); place++) {
         const struct field *field = &kind->field[place];
         for (number = field->lowest; number < field->lowest + field_holds(field); number++) {
             random_sequence(&sequence, kind);
@@ -51,22 +51,25 @@ static void fields_over_their_bits(struct tally *tally, const struct kind *kind)
 }
 
 /* What was put in place of one field is to be written. What is done is read back. */
-static void try_put(struct tally *tally, const struct sequence *changed, int permitted)
+static void try_put(struct tally *tally, const struct sequence *changed, size_t place, uint64_t number, int permitted)
 {
-    const struct call write = write_sequence_call(changed);
+    struct call write = write_sequence_call(changed);
+    if (takes_numbers(changed->kind)) {
+        write.number[place] = number; /* as wide as it is */
+    }
     if (compare(tally, &write, permitted ? WW_DONE : WW_BAD_FIELD) == WW_DONE) {
         struct sequence back = *changed;
         const struct call read = read_sequence_call(&back);
-        memcpy(back.bits, compared(TO), changed->kind->bits);
+        memcpy(back.bits, given(), changed->kind->bits);
         compare(tally, &read, WW_DONE);
-        demand(memcmp(compared(TO), changed->answer, changed->kind->fields_bytes) == 0,
+        demand(memcmp(given(), changed->answer, changed->kind->fields_bytes) == 0,
                "the fields read are not the fields written");
     }
 }
 
 /*
- * Another number in one field, put by the function of the header that is for such a field. Numbers from 2^63 on stand for
- * negative ones where the field may be negative.
+ * Another number in one field, put by the function of the header that is for such a field, or handed over where the writer
+ * takes numbers. Numbers from 2^63 on stand for negative ones where the field may be negative.
  */
 static void try_number(struct tally *tally, const struct sequence *base, size_t place, uint64_t number)
 {
@@ -75,10 +78,10 @@ static void try_number(struct tally *tally, const struct sequence *base, size_t 
     if (field->lowest < 0) {
         const int64_t negative_too = number >> 63 == 0 ? (int64_t)number : -1 - (int64_t)(UINT64_MAX - number);
         ww_put_signed_number(changed.answer, place, negative_too);
-        try_put(tally, &changed, field->lowest <= negative_too && negative_too <= field->highest);
+        try_put(tally, &changed, place, number, field->lowest <= negative_too && negative_too <= field->highest);
     } else {
         ww_put_number(changed.answer, place, number);
-        try_put(tally, &changed, number <= (uint64_t)field->highest);
+        try_put(tally, &changed, place, number, number <= (uint64_t)field->highest);
     }
 }
 
@@ -134,10 +137,11 @@ static void random_fields(struct tally *tally, const struct kind *kind)
     struct sequence sequence = {kind, {0}, {0}};
     size_t i, place;
     for (i = 0; i < TRIES / 4; i++) {
-        const struct call write = write_sequence_call(&sequence);
+        struct call write;
         for (place = 0; place < kind->fields; place++) {
             ww_put_number(sequence.answer, place, random_number() >> 32);
         }
+        write = write_sequence_call(&sequence);
         compare(tally, &write, WW_BAD_FIELD);
     }
 }

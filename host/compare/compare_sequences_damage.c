@@ -101,7 +101,7 @@ static void turn_polynomial(struct tally *tally, const struct sequence *good)
         other = turned;
         sequence_seal(&other);
         if (compare(tally, &read, sequence_due(&other)) == WW_DONE) {
-            demand(memcmp(compared(TO), other.answer, other.kind->answer_bytes) == 0, "not the answer of the other fields");
+            demand(memcmp(given(), other.answer, other.kind->answer_bytes) == 0, "not the answer of the other fields");
         }
     }
 }

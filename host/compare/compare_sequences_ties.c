@@ -9,6 +9,7 @@
 #include "random.h"
 #include "refusals.h"
 #include "sequences.h"
+#include "shapes.h"
 
 #define TRIES 20000
 
@@ -37,7 +38,7 @@ static uint32_t fault_in_range(struct attempt *attempt)
     const struct field *field;
     size_t place;
     do {
-        place = random_below(sequence->kind->fields);
+        place = random_below(attempt->reading ? all_fields(sequence->kind) : sequence->kind->fields);
         field = &sequence->kind->field[place];
     } while (attempt->reading && !field_can_be_out_of_range(field));
     if (attempt->reading) {
@@ -45,6 +46,7 @@ static uint32_t fault_in_range(struct attempt *attempt)
         sequence_set(sequence, place, field->highest + 1 + (int64_t)random_below((uint64_t)beyond));
     } else {
         ww_put_number(sequence->answer, place, out_of_range(field));
+        attempt->call = write_sequence_call(sequence);
     }
     return WW_BAD_FIELD;
 }
@@ -99,16 +101,20 @@ static uint32_t fault_in_length(struct attempt *attempt, size_t which)
     return WW_BAD_LENGTH;
 }
 
-/* Makes a fault and gives its refusal. The writer is given no bits, so nothing can be wrong with them. */
+/*
+ * Makes a fault and gives its refusal. The writer is given no bits, so nothing can be wrong with them, and one that takes
+ * numbers has nothing to read at all.
+ */
 static uint32_t make_fault(struct attempt *attempt, size_t fault)
 {
+    const struct shape *shape = &shapes[attempt->call.entry];
     switch (fault) {
     case RANGE: return fault_in_range(attempt);
     case CHECK: return attempt->reading ? fault_in_check(attempt) : WW_DONE;
     case FRAMING: return attempt->reading ? fault_in_framing(attempt) : WW_DONE;
     case BYTE: return attempt->reading ? fault_in_byte(attempt) : WW_DONE;
-    case LENGTH_FROM: return fault_in_length(attempt, FROM);
-    default: return fault_in_length(attempt, TO);
+    case LENGTH_FROM: return shape->read_only > 0 ? fault_in_length(attempt, FROM) : WW_DONE;
+    default: return fault_in_length(attempt, shape->slices - 1);
     }
 }
 

@@ -7,6 +7,17 @@
 
 #include "random.h"
 #include "second.h"
+#include "shapes.h"
+
+size_t all_fields(const struct kind *kind)
+{
+    return kind->fields + kind->hidden;
+}
+
+int takes_numbers(const struct kind *kind)
+{
+    return shapes[kind->write].numbers != 0;
+}
 
 int is_framing(const struct kind *kind, size_t place)
 {
@@ -40,26 +51,40 @@ int field_can_be_out_of_range(const struct field *field)
     return field->highest - field->lowest + 1 < field_holds(field);
 }
 
-/* Every dot is of one field, in order, and every other letter is as it must be. */
+/* Takes the dots of one field away. False where one of them is not there, or the range is more than the bits can hold. */
+static int take_dots(char *letters, const struct field *field)
+{
+    char *first = letters + field->first;
+    if (field->first > strlen(letters) || strspn(first, ".") < field->bits) {
+        return 0;
+    }
+    memset(first, 'f', field->bits);
+    return field->highest - field->lowest < field_holds(field);
+}
+
+/*
+ * Every dot is of one field, and every other letter is as it must be. The fields are in order: those that the answer shows,
+ * and those that it does not.
+ */
 static int fields_fill_the_dots(const struct kind *kind)
 {
-    size_t places[MOST_SEQUENCE_BITS], i, at = 0;
-    const size_t dots = places_of(kind, '.', places);
-    for (i = 0; i < kind->fields && at < dots; i++) {
-        const struct field *field = &kind->field[i];
-        if (places[at] != field->first || field->highest - field->lowest >= field_holds(field)) {
+    char letters[MOST_SEQUENCE_BITS + 1];
+    size_t places[MOST_SEQUENCE_BITS], i;
+    strcpy(letters, kind->letters);
+    for (i = 0; i < all_fields(kind); i++) {
+        const int is_first = i == 0 || i == kind->fields;
+        if ((!is_first && kind->field[i].first < kind->field[i - 1].first) || !take_dots(letters, &kind->field[i])) {
             return 0;
         }
-        at += field->bits;
     }
-    return i == kind->fields && at == dots && places_of(kind, 'c', places) == 16 &&
-           strspn(kind->letters, "01.c") == kind->bits;
+    return places_of(kind, 'c', places) == 16 && strspn(letters, "01fc") == kind->bits;
 }
 
 void sequence_check(const struct kind *kind)
 {
     if (kind->bits > MOST_SEQUENCE_BITS || strlen(kind->letters) != kind->bits || kind->answer_bytes > MOST_ANSWER_BYTES ||
-        kind->fields_bytes != 4 * kind->fields || kind->answer_bytes < kind->fields_bytes || !fields_fill_the_dots(kind)) {
+        kind->fields_bytes != 4 * kind->fields || kind->answer_bytes < kind->fields_bytes ||
+        (takes_numbers(kind) && shapes[kind->write].numbers != kind->fields) || !fields_fill_the_dots(kind)) {
         fprintf(stderr, "compare: what is said of %s does not fit together\n", kind->name);
         exit(1);
     }
@@ -125,8 +150,8 @@ uint32_t sequence_due(const struct sequence *sequence)
 {
     const struct kind *kind = sequence->kind;
     size_t i;
-    for (i = 0; i < kind->fields; i++) {
-        const int64_t number = ww_signed_number(sequence->answer, i);
+    for (i = 0; i < all_fields(kind); i++) {
+        const int64_t number = number_in_bits(sequence, i);
         if (number < kind->field[i].lowest || number > kind->field[i].highest) {
             return WW_BAD_FIELD;
         }
@@ -144,9 +169,11 @@ void random_sequence(struct sequence *sequence, const struct kind *kind)
 {
     size_t i;
     sequence->kind = kind;
-    for (i = 0; i < kind->fields; i++) {
+    for (i = 0; i < all_fields(kind); i++) {
         const struct field *field = &kind->field[i];
-        put_field_bits(sequence, i, field->lowest + (int64_t)random_below((uint64_t)(field->highest - field->lowest) + 1));
+        const int as_written = i >= kind->fields && random_below(2) == 0;
+        const uint64_t range = as_written ? 1 : (uint64_t)(field->highest - field->lowest) + 1;
+        put_field_bits(sequence, i, field->lowest + (int64_t)random_below(range));
     }
     sequence_seal(sequence);
 }
@@ -155,7 +182,7 @@ void edge_sequence(struct sequence *sequence, const struct kind *kind, int highe
 {
     size_t i;
     sequence->kind = kind;
-    for (i = 0; i < kind->fields; i++) {
+    for (i = 0; i < all_fields(kind); i++) {
         put_field_bits(sequence, i, highest ? kind->field[i].highest : kind->field[i].lowest);
     }
     sequence_seal(sequence);
@@ -171,17 +198,38 @@ struct call read_sequence_call(const struct sequence *sequence)
 struct call write_sequence_call(const struct sequence *sequence)
 {
     const struct kind *kind = sequence->kind;
-    const struct call call = {kind->write, {0}, {slice_of(sequence->answer, kind->fields_bytes), room(kind->bits)}};
+    struct call call = {kind->write, {0}, {slice_of(sequence->answer, kind->fields_bytes), room(kind->bits)}};
+    size_t place;
+    if (takes_numbers(kind)) {
+        call.slice[0] = room(kind->bits);
+        for (place = 0; place < kind->fields; place++) {
+            call.number[place] = ww_number(sequence->answer, place);
+        }
+    }
     return call;
+}
+
+/* Gives what the answer does not show the numbers that the writer gives it. Where it has them nothing is done. */
+static void set_as_written(struct sequence *sequence)
+{
+    const struct kind *kind = sequence->kind;
+    size_t place;
+    for (place = kind->fields; place < all_fields(kind); place++) {
+        if (number_in_bits(sequence, place) != kind->field[place].lowest) {
+            sequence_set(sequence, place, kind->field[place].lowest);
+        }
+    }
 }
 
 void there_and_back(struct tally *tally, const struct sequence *sequence, uint32_t due)
 {
     const struct call write = write_sequence_call(sequence), read = read_sequence_call(sequence);
-    if (compare(tally, &write, due) == WW_DONE) {
-        demand(memcmp(compared(TO), sequence->bits, sequence->kind->bits) == 0, "not the bits due");
+    struct sequence written = *sequence;
+    set_as_written(&written);
+    if (compare(tally, &write, sequence_due(&written)) == WW_DONE) {
+        demand(memcmp(given(), written.bits, written.kind->bits) == 0, "not the bits due");
     }
     if (compare(tally, &read, due) == WW_DONE) {
-        demand(memcmp(compared(TO), sequence->answer, sequence->kind->answer_bytes) == 0, "not the answer due");
+        demand(memcmp(given(), sequence->answer, sequence->kind->answer_bytes) == 0, "not the answer due");
     }
 }

@@ -35,16 +35,17 @@ struct kind {
     size_t bits;
     const struct field *field;
     size_t fields;       /* of them, in the order of the places */
-    size_t fields_bytes; /* what the writer takes */
+    size_t hidden;       /* behind them, those that the answer does not show. The writer gives them their lowest numbers */
+    size_t fields_bytes; /* what the writer takes, as a slice or else as numbers: calls.def says which */
     size_t answer_bytes; /* what the reader gives: the fields first */
     void (*put_behind)(uint8_t *answer); /* puts behind the fields what the reader gives there; null where nothing */
     const struct worked *worked;
     size_t worked_count;
 };
 
-extern const struct kind info0, info1c;
+extern const struct kind info0, info1c, jp;
 
-/* A sequence, and the answer of its reader. The answer's first bytes are what the writer takes. */
+/* A sequence, and the answer of its reader. The answer's first numbers are what the writer takes. */
 struct sequence {
     const struct kind *kind;
     uint8_t bits[MOST_SEQUENCE_BITS];
@@ -53,6 +54,12 @@ struct sequence {
 
 /* Ends the program where letters, fields and lengths of a kind do not fit each other. */
 void sequence_check(const struct kind *kind);
+
+/* How many fields there are, those that the answer does not show with them. */
+size_t all_fields(const struct kind *kind);
+
+/* Whether the writer takes the fields as numbers. */
+int takes_numbers(const struct kind *kind);
 
 /* Whether the place always has the same bit. */
 int is_framing(const struct kind *kind, size_t place);
@@ -71,7 +78,10 @@ int field_can_be_out_of_range(const struct field *field);
 void sequence_seal(struct sequence *sequence);
 uint32_t sequence_due(const struct sequence *sequence);
 
-/* A sequence with all fields in range, at random; and with every field at its lowest, or at its highest. */
+/*
+ * A sequence with all fields in range, at random; and with every field at its lowest, or at its highest. Of those that the
+ * answer does not show, half are drawn as the writer gives them.
+ */
 void random_sequence(struct sequence *sequence, const struct kind *kind);
 void edge_sequence(struct sequence *sequence, const struct kind *kind, int highest);
 
@@ -82,7 +92,10 @@ void sequence_set(struct sequence *sequence, size_t place, int64_t number);
 struct call read_sequence_call(const struct sequence *sequence);
 struct call write_sequence_call(const struct sequence *sequence);
 
-/* Writes the fields, reads the bits, and demands that each gives the other, or that both refuse with what is due. */
+/*
+ * Writes the fields, reads the bits, and demands that each gives the other, or that both refuse with what is due. Where a
+ * field that the answer does not show is not as the writer gives it, the writer's due is the sequence in which it is.
+ */
 void there_and_back(struct tally *tally, const struct sequence *sequence, uint32_t due);
 
 #endif

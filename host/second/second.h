@@ -1,7 +1,7 @@
 /*
  * second.h: the second program. It does what include/workerwax.h says, and shares no line with the library.
  *
- * It was written from V.34 and the project's papers alone, in plain C, to be compared with the proved library over
+ * It was written from V.34, V.92 and the project's papers alone, in plain C, to be compared with the proved library over
  * many inputs. Where there was a choice it takes another way than the paper's words suggest: counts by convolution, the
  * switching by a quotient, the scrambler over the history of its outputs, the CRC as a sum with no register. It also is
  * the plain C that the library is measured against, so it holds its counts in tables.
@@ -34,6 +34,8 @@ uint32_t second_info0_read(const uint8_t *bits, size_t bits_length, uint8_t *fie
 uint32_t second_info0_write(const uint8_t *fields, size_t fields_length, uint8_t *bits, size_t bits_length);
 uint32_t second_info1c_read(const uint8_t *bits, size_t bits_length, uint8_t *report, size_t report_length);
 uint32_t second_info1c_write(const uint8_t *fields, size_t fields_length, uint8_t *bits, size_t bits_length);
+uint32_t second_jp_read(const uint8_t *bits, size_t bits_length, uint8_t *answer, size_t answer_length);
+uint32_t second_jp_write(uint64_t fraction, uint64_t training, uint64_t renegotiation, uint8_t *bits, size_t bits_length);
 
 /*
  * Below the calls, for tests that need what no call gives. They test nothing: m is 1 to 18, a number is below

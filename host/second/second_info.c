@@ -80,14 +80,11 @@ uint32_t second_info0_write(const uint8_t *fields, size_t fields_length, uint8_t
 static void put_reading(uint64_t count, uint64_t reading[3])
 {
     const int64_t counted = count < 0x80000000 ? (int64_t)count : (int64_t)count - 0x100000000;
-    const double hertz = (double)counted / 50.0;
-    uint64_t as_bits = 0;
+    memset(reading, 0, 3 * sizeof reading[0]);
     if (count != NOT_MEASURED) {
-        memcpy(&as_bits, &hertz, sizeof hertz);
+        reading[0] = 1;
+        second_halves((double)counted / 50.0, reading + 1);
     }
-    reading[0] = count != NOT_MEASURED;
-    reading[1] = as_bits & 0xffffffff;
-    reading[2] = as_bits >> 32;
 }
 
 uint32_t second_info1c_read(const uint8_t *bits, size_t bits_length, uint8_t *report, size_t report_length)

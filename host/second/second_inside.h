@@ -47,6 +47,9 @@ uint32_t second_refuse_state(const struct state *given, struct parameters *found
 void second_put(uint8_t *answer, const uint64_t *numbers, size_t count);
 void second_get(const uint8_t *answer, uint64_t *numbers, size_t count);
 
+/* The two numbers of 32 bits as which the eight bytes of a double are written: the lower half, and then the upper. */
+void second_halves(double number, uint64_t halves[2]);
+
 /* Writes the numbers of a state. */
 void second_put_state(uint8_t *answer, const struct state *state);
 

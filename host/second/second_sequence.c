@@ -78,7 +78,7 @@ static uint64_t above_lowest(const struct field *field, uint64_t number, unsigne
 
 static int is_permitted(const struct field *field, uint64_t number)
 {
-    return above_lowest(field, number, 32) <= (uint64_t)((int64_t)field->highest - field->lowest);
+    return number <= 0xffffffff && above_lowest(field, number, 32) <= (uint64_t)((int64_t)field->highest - field->lowest);
 }
 
 /* The number that the bits of a field stand for, in its 32 bits. */

@@ -12,7 +12,9 @@
 
 /*
  * A field: how many bits it has, lowest weight first, its lowest number and its highest. The number that its bits stand for
- * is the first from the lowest on that has them as its low bits: so one whose lowest is negative is in two's complement.
+ * is the first from the lowest on that has them as its low bits: so one whose lowest is negative is in two's complement,
+ * and a bit that must be 1 stands for 1 or for 2, which is above its highest. What is reserved is a field that may be all
+ * that its bits can hold.
  */
 struct field {
     unsigned bits;
@@ -39,7 +41,10 @@ struct sequence {
  */
 uint32_t second_read_sequence(const struct sequence *sequence, const uint8_t *bits, uint64_t *numbers);
 
-/* The inverse. Refused with FIELD, and no bit is written; or DONE, and all bits are there. */
+/*
+ * The inverse. Refused with FIELD, for a number that 32 bits can't hold too, and no bit is written; or DONE, and all bits
+ * are there.
+ */
 uint32_t second_write_sequence(const struct sequence *sequence, const uint64_t *numbers, uint8_t *bits);
 
 #endif

@@ -1,4 +1,6 @@
 /* second_settings.c: the settings, worked out or refused (clauses 8.1, 8.2 and 9.2), and the starts. */
+#include <string.h>
+
 #include "second.h"
 #include "second_inside.h"
 
@@ -122,6 +124,14 @@ void second_get(const uint8_t *answer, uint64_t *numbers, size_t count)
         const uint8_t *at = answer + 4 * i;
         numbers[i] = at[0] + 256 * (at[1] + 256 * (at[2] + 256 * (uint64_t)at[3]));
     }
+}
+
+void second_halves(double number, uint64_t halves[2])
+{
+    uint64_t eight_bytes;
+    memcpy(&eight_bytes, &number, sizeof number);
+    halves[0] = eight_bytes & 0xffffffff;
+    halves[1] = eight_bytes >> 32;
 }
 
 void second_put_state(uint8_t *answer, const struct state *state)

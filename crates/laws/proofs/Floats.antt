@@ -53,9 +53,11 @@ sign-kept false true s p q = absurd (subst (λ (v : Bool). cond v (Unit {0}) ⊥
 sign-kept false false s p q = p
 
 -- its significand is not 0, by which the division goes
+raised : (k d : ℕ) (g : ℤ) → 0 < d → k * up g * 1 ≡ d * down g → 0 < k * up g
+raised k d g some e = first-pos (k * up g) 1 (subst (λ (n : ℕ). 0 < n) (sym e) (mul-pos some (down-pos g)))
+
 filled : (k d : ℕ) (g : ℤ) → 0 < d → k * up g * 1 ≡ d * down g → 0 < k
-filled k d g some e =
-    first-pos k (up g) (first-pos (k * up g) 1 (subst (λ (n : ℕ). 0 < n) (sym e) (mul-pos some (down-pos g))))
+filled k d g some e = first-pos k (up g) (raised k d g some e)
 
 abbrev quotient : Bool → Bool → ℕ → ℤ → ℕ → ℤ → Float
 quotient v s m e k g =
@@ -77,7 +79,7 @@ over-whole (fin t m e) nan s n d v w some = absurd w
 over-whole (fin t m e) (inf u) s n d v w some = absurd w
 over-whole (fin t m e) (fin u k g) s n d v w some =
     let above = filled k d g some (w .1) in
-    let high : 0 < k * up g = first-pos (k * up g) 1 (subst (λ (n : ℕ). 0 < n) (sym (w .1)) (mul-pos some (down-pos g))) in
+    let high = raised k d g some (w .1) in
     ap (λ (b : Bool). quotient b (unlike t u) m e k g) (ne-eqb k 0 (λ z. omega (arith, above, z)))
     ∙ (ap (λ (b : Bool). quotient false b m e k g) (sign-kept t u s (v .0) (w .0))
     ∙ round-same binary64 s (m * up e * down g) (k * up g * down e) n d (mul-pos high (down-pos e)) some

@@ -18,7 +18,7 @@ pub rounded-once : (z : ℤ) → mag z < 512 → hertzOf z ≡ round binary64 (n
 unfolding hertzOf
 rounded-once z h = floats.rounded-once 50 (omega arith) (omega arith) z (omega (arith, natAbs-le z h))
 
--- halves are floats
+-- a count of 25·k steps is k halves of a hertz, and halves are floats
 exact-at : (z : ℤ) (k : ℕ) → mag z < 512 → natAbs z ≡ 25 * k → HasValue (hertzOf z) (not (nonNeg z)) k 2
 exact-at z k h e =
     let s = not (nonNeg z) in

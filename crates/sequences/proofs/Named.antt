@@ -1,6 +1,6 @@
--- A sequence whose fields go by names, as a table of V.34 prints it: the table says what the fields may be, and what the whole sequence
--- then is. Where that agrees with picture and table of the sequence, field by field, the printed sequences are exactly the ones that are
--- read and written, and go there and back by their names. Assumes nothing.
+-- A sequence whose fields go by names, as a table of the standard prints it: the table says what the fields may be, and what the whole
+-- sequence then is. Where that agrees with picture and table of the sequence, field by field, the printed sequences are exactly the ones
+-- that are read and written, go there and back by their names, and no two are printed alike. Assumes nothing.
 use mathlib.Core.Bool.{true}
 use mathlib.Core.List.{List}
 use mathlib.Core.Logic.{_↔_}

@@ -10,6 +10,8 @@
 --     info0-write-accepts    the bytes hold fields that Table 14 can say
 --     info1c-read-accepts    the bits are those of Table 15 for fields and a count that it can say
 --     info1c-write-accepts   the bytes hold fields and a count that Table 15 can say
+--     jp-read-accepts        the bits are those of Table 22 of V.92 for fields that it can say, with anything in the reserved places
+--     jp-write-accepts       the fraction is at most 65,535 and each size at most 1
 -- and so ww_write takes every data frame of N bits from a state that a start answered, `writes-from-start`. Assumes nothing.
 use mathlib.Core.Bool.{Bool, true, false, not, cond}
 use mathlib.Core.List.{List, [], _∷_}
@@ -45,6 +47,9 @@ use Rattle.info.specs.Info1c.{info1c, numbersOf as info1cNumbers}
 use Rattle.info.specs.Table15.{Sayable as Sayable15, sequence15}
 use Rattle.info.proofs.Rows14.{fieldsOf, printed14}
 use Rattle.info.proofs.Rows15.{Said, numbersSaid, saidBy, MaySay, sequenceSaid, printed15}
+use Rattle.jp.specs.Jp.{jp}
+use Rattle.jp.specs.Table22.{Content, Receivable as Receivable22, sequence22}
+use Rattle.jp.proofs.Rows22.{numbersIn22, contentOf, printed22, writes-exactly as jp-writes}
 use Rattle.coder.specs.declared.states.State.{State}
 use Rattle.coder.specs.State.{workedIn, startedOf, shortStartedOf}
 use Rattle.coder.specs.Receiving.{receivingOf, allInRange, numbersFit, allStepsFit}
@@ -55,7 +60,8 @@ use Rattle.workerwax.specs.Calls.{own, ParametersCall, RankCall, StartCa
 use Rattle.workerwax.specs.Info.{SequenceReadCall, SequenceWriteCall, Info0ReadCall, Info0WriteCall, asTheyAre}
 use Rattle.workerwax.specs.Info.{Info1cReadCall, Info1cWriteCall, countIn10, countIn32, reported}
 use Rattle.workerwax.specs.Layout.{words, numbersIn, labelsIn, parametersBytes, rankBytes, startBytes, codedBytes}
-use Rattle.workerwax.specs.Layout.{info0Bits, info0Bytes, info1cBits, info1cBytes, reportBytes}
+use Rattle.workerwax.specs.Jp.{named, answerBytes, JpReadCall, JpWriteCall}
+use Rattle.workerwax.specs.Layout.{info0Bits, info0Bytes, info1cBits, info1cBytes, reportBytes, jpBits, jpBytes}
 use Rattle.workerwax.specs.Lending.{lentLabels}
 use Rattle.workerwax.proofs.Lends.{lent-exact, length-labels}
 use Rattle.workerwax.proofs.Coding.{all-given}
@@ -376,3 +382,19 @@ info1c-write-accepts fields lent r after small call = (
     accepts =
         sequence-write-accepts-told info1c numbersSaid saidBy MaySay sequenceSaid printed15 info1cBytes reported countIn10 countIn32
         carried1c fields lent r after small call
+
+-- ww_jp_read and ww_jp_write, by Table 22 of V.92
+pub jp-read-accepts :
+    (bits lent : List ℕ) (r : ℕ) (after : List ℕ) → JpReadCall bits lent r after
+    → (r ≡ 0) ↔ (((c : Content) × Receivable22 c × (bits ≡ sequence22 c)) × (length lent ≡ jpBytes))
+jp-read-accepts = sequence-read-accepts jp numbersIn22 contentOf Receivable22 sequence22 printed22 jpBytes answerBytes
+
+pub jp-write-accepts :
+    (fraction training renegotiation : ℕ) (lent : List ℕ) (r : ℕ) (after : List ℕ)
+    → JpWriteCall fraction training renegotiation lent r after
+    → (r ≡ 0) ↔ ((fraction ≤ 65535) × (training ≤ 1) × (renegotiation ≤ 1) × (length lent ≡ jpBits))
+jp-write-accepts fraction training renegotiation lent r after call =
+    let same = jp-writes (named fraction training renegotiation) (length lent) in (
+      λ zero. let q = same .0 (sym (call .number) ∙ zero) in (q .0 .fraction, q .0 .training, q .0 .renegotiation, q .1),
+      λ q. call .number ∙ same .1 (record { fraction = q .0; training = q .1; renegotiation = q .2 }, q .3),
+    )

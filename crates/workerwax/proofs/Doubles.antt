@@ -5,8 +5,7 @@ use mathlib.Core.Path.{_≡_, refl, sym, ap, ap₂, _∙_}
 use Prim.Native.Nat.{ℕ, zero, suc, _+_, _*_, _/_, _%_}
 use native.Mathlib.Nat.{add-mul-mod-self-left, div-div-eq-div-mul}
 use native.Mathlib.Omega.{arith}
-use Rattle.workerwax.specs.Info.{halves}
-use Rattle.workerwax.specs.Layout.{word, words}
+use Rattle.workerwax.specs.Layout.{word, words, halves}
 
 -- so many bytes of a number, lowest first
 abbrev pub lowestFirst : ℕ → ℕ → List ℕ

@@ -22,12 +22,15 @@ use Rattle.line.proofs.Acceptance.{number-is, refused-some}
 use Rattle.sequences.specs.Sequence.{Sequence, fieldsTests, sequenceTests, isLong}
 use Rattle.info.specs.Info0.{info0}
 use Rattle.info.specs.Info1c.{info1c}
+use Rattle.jp.specs.Jp.{jp, sentNumbers}
 use Rattle.coder.specs.declared.states.State.{State}
 use Rattle.coder.specs.State.{stateOf, workedIn, unfit, stateRefusalOf, startedOf, shortStartedOf}
 use Rattle.coder.specs.Answers.{writeTests, readTests}
 use Rattle.workerwax.specs.Calls.{order, own, parametersNumber, rankNumber, startNumber, exactBytes, writeNumber, readNumber}
 use Rattle.workerwax.specs.Info.{info0ReadNumber, info0WriteNumber, asTheyAre, info1cReadNumber, info1cWriteNumber, countIn10}
+use Rattle.workerwax.specs.Jp.{jpReadNumber, jpWriteNumber, named}
 use Rattle.workerwax.specs.Layout.{numbersIn, labelsIn, parametersBytes, rankBytes, startBytes, info0Bytes, info1cBytes, reportBytes}
+use Rattle.workerwax.specs.Layout.{jpBytes}
 use Rattle.workerwax.proofs.Ways.{own-given}
 
 -- The settings' tests, and more behind them: refused settings give their own number, accepted ones leave it to the others.
@@ -217,3 +220,24 @@ info1c-write-listed fields lent = refl
 
 pub info1c-write-follows : (fields : List ℕ) (lent : ℕ) → follows order (numbered (info1cWriteTests fields lent)) ≡ true
 info1c-write-follows = sequence-write-follows info1c info1cBytes countIn10
+
+-- ww_jp_read and ww_jp_write
+abbrev pub jpReadTests : List ℕ → ℕ → List (Bool × ℕ)
+jpReadTests = sequenceReadTests jp jpBytes
+
+pub jp-read-listed : (bits : List ℕ) (lent : ℕ) → jpReadNumber bits lent ≡ refusal (jpReadTests bits lent)
+jp-read-listed bits lent = refl
+
+pub jp-read-follows : (bits : List ℕ) (lent : ℕ) → follows order (numbered (jpReadTests bits lent)) ≡ true
+jp-read-follows = sequence-read-follows jp jpBytes
+
+module _ (fraction training renegotiation lent : ℕ) where
+  abbrev pub jpWriteTests : List (Bool × ℕ)
+  jpWriteTests = sequenceTests jp (sentNumbers (named fraction training renegotiation)) (isLong jp lent)
+
+  pub jp-write-listed : jpWriteNumber fraction training renegotiation lent ≡ refusal jpWriteTests
+  jp-write-listed = refl
+
+  pub jp-write-follows : follows order (numbered jpWriteTests) ≡ true
+  unfolding follows numbered sequenceTests
+  jp-write-follows = refl

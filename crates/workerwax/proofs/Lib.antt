@@ -7,6 +7,7 @@
 --     Back         ww_write and ww_read undo each other
 --     InfoBack     the calls of any sequence undo each other, and so those of INFO0 and of INFO1c
 --     Reported     the report of INFO1c in bytes: its count, its flag and its hertz
+--     JpBack       the calls of Jp, and what they undo; its answer in bytes: the fields and the double
 --     Places       ww_map and ww_rank by how many sets stand before a set, and that they undo each other
 --     Words        what the words of an answer say, and that the state in them is fit again
 --     Undone       bytes there and back, and worked layouts
@@ -29,6 +30,7 @@ pub mod FromTheLine
 pub mod Back
 pub mod InfoBack
 pub mod Reported
+pub mod JpBack
 pub mod Places
 pub mod Words
 pub mod Undone

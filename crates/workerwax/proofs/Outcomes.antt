@@ -7,12 +7,15 @@ use Rattle.rings.specs.Mapping.{MapAnswer}
 use Rattle.sequences.specs.Sequence.{Sequence}
 use Rattle.info.specs.Info0.{info0}
 use Rattle.info.specs.Info1c.{info1c}
+use Rattle.jp.specs.Jp.{jp}
+use Rattle.jp.proofs.Trips22.{one-jp-written}
 use Rattle.coder.specs.declared.states.State.{State}
 use Rattle.coder.specs.declared.states.Started.{Started}
 use Rattle.workerwax.specs.Calls.{ParametersCall, RankCall, StartCall, WriteCall, ReadCall}
 use Rattle.workerwax.specs.Info.{SequenceReadCall, SequenceWriteCall, Info0ReadCall, Info0WriteCall, asTheyAre}
 use Rattle.workerwax.specs.Info.{Info1cReadCall, Info1cWriteCall, countIn10, reported}
-use Rattle.workerwax.specs.Layout.{words, info0Bytes, info1cBytes, reportBytes}
+use Rattle.workerwax.specs.Jp.{named, answerBytes, JpReadCall, JpWriteCall}
+use Rattle.workerwax.specs.Layout.{words, info0Bytes, info1cBytes, reportBytes, jpBytes}
 
 pub one-parameters :
     (worked : Worked) (answer : List ℕ) (v w : ℕ) (after other : List ℕ)
@@ -49,7 +52,7 @@ pub one-reading :
 one-reading st labels lent answer v w bits bits′ after other p q =
     (p .number ∙ sym (q .number), p .bits ∙ sym (q .bits), p .next ∙ sym (q .next))
 
--- the calls of any sequence, and so those of INFO0 and of INFO1c
+-- the calls of any sequence, and so those of INFO0 and of INFO1c, and the one that reads Jp
 module _ (s : Sequence) (bytes : ℕ) where
   pub one-sequence-reading :
       (shown : List ℕ → List ℕ) (bits lent : List ℕ) (v w : ℕ) (after other : List ℕ)
@@ -81,3 +84,14 @@ pub one-info1c-writing :
     (fields lent : List ℕ) (v w : ℕ) (after other : List ℕ)
     → Info1cWriteCall fields lent v after → Info1cWriteCall fields lent w other → (v ≡ w) × (after ≡ other)
 one-info1c-writing = one-sequence-writing info1c info1cBytes countIn10
+
+pub one-jp-reading :
+    (bits lent : List ℕ) (v w : ℕ) (after other : List ℕ)
+    → JpReadCall bits lent v after → JpReadCall bits lent w other → (v ≡ w) × (after ≡ other)
+one-jp-reading = one-sequence-reading jp jpBytes answerBytes
+
+pub one-jp-writing :
+    (fraction training renegotiation : ℕ) (lent : List ℕ) (v w : ℕ) (after other : List ℕ)
+    → JpWriteCall fraction training renegotiation lent v after → JpWriteCall fraction training renegotiation lent w other
+    → (v ≡ w) × (after ≡ other)
+one-jp-writing fraction training renegotiation = one-jp-written (named fraction training renegotiation)

@@ -3,7 +3,7 @@
 -- the bytes what Table 15 and one division by 50 make them. Assumes nothing.
 use mathlib.Core.List.{List, [], _∷_, _++_}
 use mathlib.Core.Logic.{_↔_}
-use mathlib.Core.Path.{_≡_, refl, sym, ap, ap₂, subst, _∙_}
+use mathlib.Core.Path.{_≡_, refl, sym, ap, subst, _∙_}
 use Prim.Native.Nat.{ℕ, _≤_, _<_}
 use native.Mathlib.Omega.{arith}
 use lib.Ieee.{binary64, div, ofInt, toBits}
@@ -28,8 +28,8 @@ use Rattle.info.specs.declared.info1c.Info1c.{Info1c}
 use Rattle.info.specs.declared.info1c.Report.{Report}
 use Rattle.info.proofs.Reports.{report-read, count-held}
 use Rattle.info.proofs.Rows15.{whole1c, last-held, Said, numbersSaid, MaySay, printed15}
-use Rattle.workerwax.specs.Info.{in32, countIn32, countIn10, halves, readingNumbers, reported, Info1cReadCall}
-use Rattle.workerwax.specs.Layout.{words, numbersIn, info1cBytes, reportBytes}
+use Rattle.workerwax.specs.Info.{in32, countIn32, countIn10, readingNumbers, reported, Info1cReadCall}
+use Rattle.workerwax.specs.Layout.{words, numbersIn, halves, info1cBytes, reportBytes}
 use Rattle.workerwax.proofs.Carried.{Carried, Counted, Ranged, ranges-short}
 use Rattle.workerwax.proofs.Doubles.{lowestFirst, halves-lowest}
 use Rattle.workerwax.proofs.Infos.{read-zero, read-shown}

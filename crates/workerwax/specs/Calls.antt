@@ -11,6 +11,8 @@
 --     ww_info0_write              8; 18                                   (specs/Info)
 --     ww_info1c_read              8; 9; 16; 17; 18                        (specs/Info)
 --     ww_info1c_write             8; 18                                   (specs/Info)
+--     ww_jp_read                  8; 9; 16; 17; 18                        (specs/Jp)
+--     ww_jp_write                 8; 18                                   (specs/Jp)
 --
 -- 8 is for any slice that is not as long as it has to be, the answer's too. A refused call leaves every slice as it was. A call that
 -- answers 0 has filled them:

@@ -7,11 +7,11 @@
 --     ww_info1c_write    fields 88, only read; bits 109         8; 18
 --
 -- A call is said of any sequence, so that each sequence is a row: its picture and table, how many bytes it answers with or is handed, and
--- how the numbers of the fields stand in them.
+-- how the numbers of the fields stand in them. (The rows of Jp are on a page of their own.)
 use mathlib.Core.Bool.{_&&_}
 use mathlib.Core.List.{List, [], _∷_, _++_}
 use mathlib.Core.Path.{_≡_}
-use Prim.Native.Nat.{ℕ, _/_, _%_}
+use Prim.Native.Nat.{ℕ}
 use lib.Dec.{eqb}
 use lib.IntN.{ℤ}
 use lib.ListN.{length, getD}
@@ -24,7 +24,7 @@ use Rattle.offset.specs.declared.reading.Reading.{Reading}
 use Rattle.info.specs.Info0.{info0}
 use Rattle.info.specs.Info1c.{info1c, numbersOf, fieldsOf, countOf, countBits}
 use Rattle.workerwax.specs.Calls.{filled}
-use Rattle.workerwax.specs.Layout.{words, numbersIn, info0Bytes, info1cBytes, reportBytes}
+use Rattle.workerwax.specs.Layout.{words, numbersIn, halves, info0Bytes, info1cBytes, reportBytes}
 
 -- a call that reads a sequence: the reader's own tests, by both lengths
 abbrev pub sequenceReadNumber : Sequence → ℕ → List ℕ → ℕ → ℕ
@@ -75,10 +75,6 @@ countIn32 numbers = numbersOf (fieldsOf numbers) (in32 (countOf numbers))
 
 unfoldable pub countIn10 : List ℕ → List ℕ
 countIn10 numbers = numbersOf (fieldsOf numbers) (countBits (from32 (getD numbers 21 0)))
-
--- a number of 64 bits as two of 32, the lower half first
-abbrev pub halves : ℕ → List ℕ
-halves n = n % 4294967296 ∷ n / 4294967296 ∷ []
 
 -- the offset in hertz: 1 or 0, whether there is a reading, and then its bit pattern
 abbrev pub readingNumbers : Reading → List ℕ

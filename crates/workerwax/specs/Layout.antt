@@ -12,6 +12,7 @@
 --     info0Bytes          the fields of INFO0                   56 bytes, and info0Bits its 49 bits, a byte each
 --     info1cBytes         the fields of INFO1c                  88 bytes, and info1cBits its 109 bits, a byte each
 --     reportBytes         these, flag and hertz                 100 bytes
+--     jpBytes             the fields of Jp, and a double        20 bytes, and jpBits its 72 bits, a byte each
 use mathlib.Core.List.{List, [], _∷_, _++_}
 use Prim.Native.Nat.{ℕ, _+_, _*_, _/_, _%_}
 
@@ -30,6 +31,10 @@ numbersIn (a ∷ []) = []
 numbersIn (a ∷ b ∷ []) = []
 numbersIn (a ∷ b ∷ c ∷ []) = []
 numbersIn (a ∷ b ∷ c ∷ d ∷ bytes) = (a + 256 * b + 65536 * c + 16777216 * d) ∷ numbersIn bytes
+
+-- a number of 64 bits, the bit pattern of a double, as two of 32, the lower half first
+abbrev pub halves : ℕ → List ℕ
+halves n = n % 4294967296 ∷ n / 4294967296 ∷ []
 
 -- labels as bytes, two for each
 unfoldable pub labelBytes : List ℕ → List ℕ
@@ -64,9 +69,15 @@ info1cBytes = 4 * 22
 abbrev pub reportBytes : ℕ
 reportBytes = info1cBytes + 4 + 8
 
+abbrev pub jpBytes : ℕ
+jpBytes = 4 * 3 + 8
+
 -- and of a sequence, one for a bit
 abbrev pub info0Bits : ℕ
 info0Bits = 49
 
 abbrev pub info1cBits : ℕ
 info1cBits = 109
+
+abbrev pub jpBits : ℕ
+jpBits = 72

@@ -2,6 +2,7 @@
 ghost use mathlib.Core.Path.{_≡_};
 ghost use Rattle.offset.specs.Requires.{NoNan};
 ghost use Rattle.workerwax.specs.Info.{Info0ReadCall, Info0WriteCall, Info1cReadCall, Info1cWriteCall, readingNumbers};
+use crate::layout::halves_of;
 use crate::layout::narrow;
 use crate::layout::put_words;
 use crate::layout::take_words;
@@ -48,12 +49,8 @@ fn reading_numbers(reading: Reading) -> [u64; 3]
     requires { ⌜ NoNan reading ⌝ }
     ensures { λ r. ⌜ r ≡ readingNumbers reading ⌝ }
 {
-    let pattern = pattern_of(reading);
-    [
-        is_reading(reading),
-        pattern % 4294967296,
-        pattern / 4294967296,
-    ]
+    let halves = halves_of(pattern_of(reading));
+    [is_reading(reading), halves[0], halves[1]]
 }
 
 // The line report of an INFO1c sequence that was received: the fields, the count in 32 bits, and the offset in hertz.

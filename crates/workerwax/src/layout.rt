@@ -3,7 +3,7 @@ ghost use mathlib.Core.Path.{_≡_};
 ghost use Prim.Native.Nat.{_+_, _*_, _^_, _≤_, _<_};
 ghost use lib.ListN.{length};
 ghost use Rattle.laws.specs.Put.{Put};
-ghost use Rattle.workerwax.specs.Layout.{word, words, numbersIn, labelBytes, labelsIn};
+ghost use Rattle.workerwax.specs.Layout.{word, words, numbersIn, halves, labelBytes, labelsIn};
 
 // A refusal number as C gets it.
 pub fn narrow(refusal: u64) -> u32
@@ -51,6 +51,13 @@ pub fn take_words(bytes: &[u8], numbers: &mut [u64])
         numbers[k] = low + 65536 * high;
         k += 1;
     }
+}
+
+// A number of 64 bits as two of 32, the lower half first.
+pub fn halves_of(n: u64) -> [u64; 2]
+    ensures { λ r. ⌜ r ≡ halves n ⌝ }
+{
+    [n % 4294967296, n / 4294967296]
 }
 
 // Labels into a slice that has just their bytes.
