@@ -4,6 +4,7 @@
 // proofs/ that these undo each other. The code of the two stands in crates of their own, `writer` and `reader`.
 // How does it work? A state is the settings as they were asked for, the scrambler's register and Z. `answers` has the tests and the answers
 // that both directions share.
+#![tactic(auto)]
 pub mod answers;
 pub mod starts;
 pub mod states;

@@ -8,7 +8,7 @@ use crate::table::lighter_row;
 
 // How many pairs and fours of rings below m have each sum, and how many eights are lighter than each weight. A row ends in
 // zeros, so that a sum that is too large counts nothing and no index leaves it.
-#[derive(Drop)]
+#[derive(Clone, Copy)]
 pub struct Counts {
     pub m: u64,
     pub pairs: [u64; 69],

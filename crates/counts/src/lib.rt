@@ -5,6 +5,7 @@
 // How does it work? Pairs go by the formula, fours one after the other by sums of pairs, and the lighter eights come from a table of
 // 1,242 numbers, whose one reader is `lighter_row`. It is done once for an M; `rings` then goes by the rows. A place is sought from 0
 // up, and each trial takes one product off.
+#![tactic(auto)]
 pub mod counts;
 pub mod places;
 mod table;

@@ -6,7 +6,7 @@ ghost use Rattle.counts.specs.Located.{located_of};
 ghost use Rattle.counts.specs.Requires.{Summable, Locatable, Ascending};
 
 // A place in a row, and what is left there.
-#[derive(Drop)]
+#[derive(Clone, Copy)]
 pub struct Located {
     pub at: usize,
     pub rest: u64,

@@ -7,7 +7,7 @@ use line::Settings;
 use line::switching::next_frame;
 
 // The shape of a mapping frame, how many bits it has, and the switching counter after it.
-#[derive(Drop)]
+#[derive(Clone, Copy)]
 pub struct Next {
     pub shape: Shape,
     pub size: usize,

@@ -5,7 +5,7 @@ ghost use Rattle.frame.specs.Shape.{length_of, shape_of};
 
 use line::Settings;
 
-#[derive(Drop)]
+#[derive(Clone, Copy)]
 pub struct Shape {
     pub shell: usize,
     pub threes: usize,

@@ -7,7 +7,7 @@ ghost use Rattle.frame.specs.Writing.{symbol_of, turned};
 use bits::value_at;
 
 // I1, I2, I3, and the q bits of the first and of the second 2D symbol, as numbers.
-#[derive(Drop)]
+#[derive(Clone, Copy)]
 pub struct Symbol {
     pub i1: u64,
     pub i2: u64,

@@ -27,7 +27,7 @@ const TABLE: [u64; 14] = [
 ];
 
 // What an end says of itself. 1 is yes, unless the line says otherwise.
-#[derive(Drop)]
+#[derive(Clone, Copy)]
 pub struct Info0 {
     pub support_2743: u64, // bit 12: it supports the symbol rate 2743
     pub support_2800: u64, // bit 13: 2800
@@ -46,7 +46,7 @@ pub struct Info0 {
 }
 
 // A refusal number, and the fields: zeros after a refusal.
-#[derive(Drop)]
+#[derive(Clone, Copy)]
 pub struct Info0Read {
     pub refusal: u64,
     pub fields: Info0,

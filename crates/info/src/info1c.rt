@@ -38,7 +38,7 @@ const TABLE: [u64; 22] = [
 ];
 
 // What is proposed to the answer modem for one symbol rate.
-#[derive(Drop)]
+#[derive(Clone, Copy)]
 pub struct Block {
     pub carrier: u64, // first bit: 1 the high carrier, 0 the low one
     pub filter: u64, // four bits: the pre-emphasis filter, 0 to 10 (Tables 3 and 4)
@@ -46,7 +46,7 @@ pub struct Block {
 }
 
 // What the call modem says after probing the line. The offset stands apart, in the report.
-#[derive(Drop)]
+#[derive(Clone, Copy)]
 pub struct Info1c {
     pub power: u64, // bits 12 to 14: by how many dB the answer modem is to reduce its power at least, 0 to 7
     pub extra: u64, // bits 15 to 17: how many dB more would be accepted, 0 to 7
@@ -61,7 +61,7 @@ pub struct Info1c {
 
 // The line report: a refusal number and the fields; the whole count, in steps of 0.02 Hz; and beside it the reading in hertz, or none.
 // After a refusal the fields and the count are 0 and there is no reading.
-#[derive(Drop)]
+#[derive(Clone, Copy)]
 pub struct Report {
     pub refusal: u64,
     pub fields: Info1c,

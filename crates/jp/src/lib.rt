@@ -5,5 +5,6 @@
 // How does it work? As for the INFO sequences of V.34: two constants, a picture of the places and a table of the fields, by which crate
 // `fields` reads and writes. Start bits stand between the fields, so they are of the picture, and the check leaves them out. What is
 // reserved is a field that may be anything, and that the struct does not show.
+#![tactic(auto)]
 pub mod part;
 pub mod sequence;

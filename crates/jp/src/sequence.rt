@@ -24,7 +24,7 @@ const TABLE: [u64; 6] = [
 ];
 
 // What the digital modem asks for. A size is that of the constellation of CPu, E2u, SUVu and TRN2u: 0 four points, 1 eight.
-#[derive(Drop)]
+#[derive(Clone, Copy)]
 pub struct Jp {
     pub fraction: u64, // bits 18 to 33: by how much of a symbol Su inverted is to be extended, in 65,536ths, 0 to 65535
     pub training: u64, // bit 48: the size in the training sequences
@@ -32,7 +32,7 @@ pub struct Jp {
 }
 
 // A refusal number; the fields, and the fraction as a part of a symbol. After a refusal they are 0.
-#[derive(Drop)]
+#[derive(Clone, Copy)]
 pub struct JpRead {
     pub refusal: u64,
     pub fields: Jp,

@@ -6,7 +6,7 @@
 --     DataFrames   the switching of a data frame
 --     Acceptance   which settings are accepted, and that at most one outcome fits
 --     Soundness    what holds of all accepted settings
---     Worked       the cases that document 01 works out
+--     WorkedCases  the cases that document 01 works out
 pub mod Rows
 pub mod Refusals
 pub mod Divisions
@@ -14,4 +14,4 @@ pub mod Rings
 pub mod DataFrames
 pub mod Acceptance
 pub mod Soundness
-pub mod Worked
+pub mod WorkedCases

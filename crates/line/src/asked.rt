@@ -1,6 +1,6 @@
 // The settings as they are asked for (document 01, "Settings"): numbers of which nothing is known yet. They stay together, so that
 // whoever only passes them on names none of them.
-#[derive(Drop)]
+#[derive(Clone, Copy)]
 pub struct Asked {
     // the sending end: 0 call modem, 1 answer modem
     pub role: u64,

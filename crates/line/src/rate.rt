@@ -3,7 +3,7 @@ ghost use Rattle.std.specs.Prelude.{◌≡◌};
 ghost use Rattle.line.specs.Rates.{rate, symbol_rate};
 
 // J data frames in a superframe, P mapping frames in a data frame, and the range of n, the data rate in steps of 2,400 bit/s.
-#[derive(Drop)]
+#[derive(Clone, Copy)]
 pub struct SymbolRate {
     pub j: u64,
     pub p: u64,
@@ -12,7 +12,7 @@ pub struct SymbolRate {
 }
 
 // A symbol rate, or none that V.34 has.
-#[derive(Drop)]
+#[derive(Clone, Copy)]
 pub enum Rate {
     Known(SymbolRate),
     Unknown,

@@ -11,14 +11,14 @@ use crate::rate::{Rate, SymbolRate};
 use crate::shells::{expanded_rings, minimum_rings};
 
 // The kind of shaping, holding its ring count M.
-#[derive(Drop)]
+#[derive(Clone, Copy)]
 pub enum Shaping {
     Minimum(u64),
     Expanded(u64),
 }
 
 // A checked set of settings, with the numbers that follow from them.
-#[derive(Drop)]
+#[derive(Clone, Copy)]
 pub struct Settings {
     // the sending end: 0 call modem, 1 answer modem
     pub role: u64,
@@ -45,7 +45,7 @@ pub struct Settings {
 }
 
 // The settings worked out, or the refusal number.
-#[derive(Drop)]
+#[derive(Clone, Copy)]
 pub enum Worked {
     Accepted(Settings),
     Refused(u64),

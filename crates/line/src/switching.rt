@@ -3,7 +3,7 @@ ghost use Rattle.std.specs.Prelude.{◌≡◌, ◌≤◌, ◌<◌};
 ghost use Rattle.line.specs.Switching.{is_high, counter_after};
 
 // Whether a mapping frame is high, and the counter after it.
-#[derive(Drop)]
+#[derive(Clone, Copy)]
 pub struct Turn {
     pub high: bool,
     pub counter: u64,

@@ -4,7 +4,7 @@ ghost use Rattle.offset.specs.Hertz.{reading_of, is_reading, pattern_of};
 ghost use Rattle.offset.specs.Requires.{NoNan};
 
 // Hertz, or that there is no reading. A blank is not 0 Hz.
-#[derive(Drop)]
+#[derive(Clone, Copy)]
 pub enum Reading {
     Hertz(f64),
     Blank,

@@ -5,6 +5,7 @@
 // How does it work? The settings and the counts are worked out once in a call. Each refusal has a pass of its own over the whole data
 // frame, and the pass that ranks the rings keeps their numbers. Then the mapping frames are read one after the other, straight into the
 // lent buffer. What it must answer `coder` says.
+#![tactic(auto)]
 pub mod check;
 pub mod entry;
 pub mod frames;

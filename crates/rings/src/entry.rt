@@ -7,7 +7,7 @@ use crate::number::{Rings, number_of, rings_of};
 use counts::counts_of;
 
 // The ranker's answer: 0 and the number, or the refusal and 0.
-#[derive(Drop)]
+#[derive(Clone, Copy)]
 pub struct Ranked {
     pub refusal: u64,
     pub number: u64,

@@ -9,7 +9,7 @@ ghost use Rattle.rings.specs.Parts.{four_of};
 use crate::pair::{PairOfRings, pair_at, place_of_pair};
 use counts::{lighter_sum, locate};
 
-#[derive(Drop)]
+#[derive(Clone, Copy)]
 pub struct FourRings {
     pub first: PairOfRings,
     pub second: PairOfRings,

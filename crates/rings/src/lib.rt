@@ -5,6 +5,7 @@
 // How does it work? The crate `counts` lays out how many pairs and fours of rings have each sum, and how many eights are lighter, once
 // for an M, and finds places among these counts. `rings_of` and `number_of` go by them, for many numbers of one M; `map` and `rank` are
 // thin over the two.
+#![tactic(auto)]
 pub mod check;
 pub mod entry;
 pub mod four;

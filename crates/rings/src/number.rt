@@ -9,13 +9,13 @@ use crate::four::{four_at, place_of_four};
 use counts::{lighter_sum, locate, locate_weight};
 
 // m1 to m8.
-#[derive(Drop)]
+#[derive(Clone, Copy)]
 pub struct Rings {
     pub ring: [u8; 8],
 }
 
 // The weight of a set and of its first four, and the places of its two fours: A, B, R2 and R3.
-#[derive(Drop)]
+#[derive(Clone, Copy)]
 pub struct Halves {
     pub weight: usize,
     pub first_weight: usize,

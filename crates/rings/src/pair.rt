@@ -5,7 +5,7 @@ ghost use Rattle.listing.specs.Number.{pair_at, place_of_pair};
 ghost use Rattle.rings.specs.Parts.{pair_of};
 ghost use Rattle.counts.specs.Counts.{Known};
 
-#[derive(Drop)]
+#[derive(Clone, Copy)]
 pub struct PairOfRings {
     pub first: u64,
     pub second: u64,

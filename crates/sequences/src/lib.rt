@@ -5,3 +5,4 @@
 // what the check notices.
 // How does it work? Nothing is said of one sequence or of one length. A sequence is a picture and a table that pass one computed test, and
 // all else follows from that test. Crate `fields` has the code, and crate `info` the sequences.
+#![tactic(auto)]

@@ -5,6 +5,7 @@
 // How does it work? Each call is thin over an entry below: `line::work_out`, `rings::map` and `rings::rank`, `coder::start`,
 // `coder::short_start`, `writer::write` and `reader::read`, `info0::read` and `info0::write`, `info1c::read` and `info1c::write`, and `read`
 // and `write` of `jp`. `asked` puts together what a call asks for, `layout` puts numbers and labels into bytes.
+#![tactic(auto)]
 pub mod asked;
 pub mod data;
 pub mod digital;

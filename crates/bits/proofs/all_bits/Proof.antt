@@ -11,48 +11,48 @@ use Rattle.bits.proofs.Tested.{bad-byte, good-byte, no_byte}
 use Rattle.bits.proofs.all_bits.Statement.{statement}
 use Rattle.bits.proofs.all_bits.Tie as tie
 
-abbrev invariant-loop : tie.invariant-loop
-invariant-loop bits good₀ i₀ good i = (good && all_bits (drop i bits)) ≡ all_bits bits
+abbrev invariant-loop-i : tie.invariant-loop-i
+invariant-loop-i bits good₀ i₀ good i = (good && all_bits (drop i bits)) ≡ all_bits bits
 
-abbrev decreases-loop : tie.decreases-loop
-decreases-loop bits good₀ i₀ good i = length bits - i
+abbrev decreases-loop-i : tie.decreases-loop-i
+decreases-loop-i bits good₀ i₀ good i = length bits - i
 
-loop-holds : tie.Need-loop-init invariant-loop decreases-loop
-loop-holds c = refl
+loop-i-init : tie.Need-loop-i-init invariant-loop-i decreases-loop-i
+loop-i-init c = refl
 
-shared-slice-read-if1 : tie.Need-shared-slice-read-if1 invariant-loop decreases-loop
-shared-slice-read-if1 c = omega arith
+bounds-bits-i : tie.Need-bounds-bits-i invariant-loop-i decreases-loop-i
+bounds-bits-i c = omega arith
 
-add-i : tie.Need-overflow-add-i invariant-loop decreases-loop
-add-i c = omega arith
+overflow_add-i : tie.Need-overflow_add-i invariant-loop-i decreases-loop-i
+overflow_add-i c = omega arith
 
-loop-less : tie.Need-loop-smaller invariant-loop decreases-loop
-loop-less c = omega arith
+loop-i-smaller : tie.Need-loop-i-smaller invariant-loop-i decreases-loop-i
+loop-i-smaller c = omega arith
 
 -- a byte above 1 lowers the flag, and another leaves it
-loop-again : tie.Need-loop-preserved invariant-loop decreases-loop
-loop-again c =
+loop-i-preserved : tie.Need-loop-i-preserved invariant-loop-i decreases-loop-i
+loop-i-preserved c =
     let t = c.before.before in
-    let l = t.before.loop in
+    let l = t.before.loop-i in
     ⊎_elim
-    (λ w. rw w.1 (sym (sym l.invariant ∙ rw (bad-byte _ l.i t.loop-test.true w.0.taken, and-false l.good))))
-    (λ w. rw (w.1, good-byte _ l.i t.loop-test.true w.0.left) l.invariant)
-    c.if1.branch
+    (λ w. rw w.good-is (sym (sym l.invariant ∙ rw (bad-byte _ l.i t.loop-i-test.true w.if-bits-i-gt1.true, and-false l.good))))
+    (λ w. rw (w.good-is, good-byte _ l.i t.loop-i-test.true w.if-bits-i-gt1.false) l.invariant)
+    c.if-bits-i-gt1.branch-raw
 
-returns : tie.Need-returns invariant-loop decreases-loop
+returns : tie.Need-returns invariant-loop-i decreases-loop-i
 returns c =
-    let l = c.before.loop in
-    sym (sym l.invariant ∙ rw (no_byte _ l.i c.loop-test.false, and-true l.good))
+    let l = c.before.loop-i in
+    sym (sym l.invariant ∙ rw (no_byte _ l.i c.loop-i-test.false, and-true l.good))
 
 pub all_bits_spec : {M : Type 1} → statement M
 all_bits_spec =
     tie.close
     (tie.spec
-    invariant-loop
-    decreases-loop
-    loop-holds
-    shared-slice-read-if1
-    add-i
-    loop-less
-    loop-again
+    invariant-loop-i
+    decreases-loop-i
+    loop-i-init
+    bounds-bits-i
+    overflow_add-i
+    loop-i-smaller
+    loop-i-preserved
     returns)

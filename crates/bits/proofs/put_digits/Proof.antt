@@ -22,37 +22,37 @@ one_more :
 one_more bits at n left i h room =
     rw (← add_assoc at i 1, digits-next n i left h) (put_first bits (at + i) (left % 2) (digits (n - (i + 1)) (left / 2)) (omega arith))
 
-abbrev invariant-loop : tie.invariant-loop
-invariant-loop x n bits₀ at left₀ i₀ bits left i =
+abbrev invariant-loop-i : tie.invariant-loop-i
+invariant-loop-i x n bits₀ at left₀ i₀ bits left i =
     (i ≤ n)
     × (at + n ≤ length bits₀)
     × (length bits ≡ length bits₀)
     × (filled bits at n left i ≡ put bits₀ at (digits n x))
 
-abbrev decreases-loop : tie.decreases-loop
-decreases-loop x n bits₀ at left₀ i₀ bits left i = n - i
+abbrev decreases-loop-i : tie.decreases-loop-i
+decreases-loop-i x n bits₀ at left₀ i₀ bits left i = n - i
 
-loop-holds : tie.Need-loop-init invariant-loop decreases-loop
-loop-holds c = (omega arith, c.requires, refl, rw (add-zero, sub-zero))
+loop-i-init : tie.Need-loop-i-init invariant-loop-i decreases-loop-i
+loop-i-init c = (omega arith, c.requires, refl, rw (add-zero, sub-zero))
 
-cast-bits : tie.Need-overflow-cast-bits invariant-loop decreases-loop
-cast-bits c = omega arith
+overflow_cast-bits : tie.Need-overflow_cast-bits invariant-loop-i decreases-loop-i
+overflow_cast-bits c = omega arith
 
-add-bits : tie.Need-overflow-add-bits invariant-loop decreases-loop
-add-bits c = omega arith
+overflow_add-bits : tie.Need-overflow_add-bits invariant-loop-i decreases-loop-i
+overflow_add-bits c = omega arith
 
-slice-write-bits : tie.Need-slice-write-bits invariant-loop decreases-loop
-slice-write-bits c = omega arith
+bounds-bits-at : tie.Need-bounds-bits-at invariant-loop-i decreases-loop-i
+bounds-bits-at c = omega arith
 
-add-i : tie.Need-overflow-add-i invariant-loop decreases-loop
-add-i c = omega arith
+overflow_add-i : tie.Need-overflow_add-i invariant-loop-i decreases-loop-i
+overflow_add-i c = omega arith
 
-loop-less : tie.Need-loop-smaller invariant-loop decreases-loop
-loop-less c = omega arith
+loop-i-smaller : tie.Need-loop-i-smaller invariant-loop-i decreases-loop-i
+loop-i-smaller c = omega arith
 
-loop-again : tie.Need-loop-preserved invariant-loop decreases-loop
-loop-again c =
-    let l = c.before.loop in
+loop-i-preserved : tie.Need-loop-i-preserved invariant-loop-i decreases-loop-i
+loop-i-preserved c =
+    let l = c.before.loop-i in
     let a = c.before.before.args in (
       omega arith,
       l.invariant.1,
@@ -60,27 +60,27 @@ loop-again c =
       one_more l.bits a.at a.n l.left l.i (omega arith) (omega arith) ∙ l.invariant.3,
     )
 
-same_length : tie.Need-same-length invariant-loop decreases-loop
-same_length c = omega arith
+shape_of-bits : tie.Need-shape_of-bits invariant-loop-i decreases-loop-i
+shape_of-bits c = omega arith
 
-returns : tie.Need-returns invariant-loop decreases-loop
+returns : tie.Need-returns invariant-loop-i decreases-loop-i
 returns c =
-    let l = c.before.loop in
+    let l = c.before.loop-i in
     let a = c.before.before.args in
-    sym (put-nothing l.bits (a.at + l.i)) ∙ (rw (digits_none a.n l.i l.left c.loop-test.false) at l.invariant.3)
+    sym (put-nothing l.bits (a.at + l.i)) ∙ (rw (digits_none a.n l.i l.left c.loop-i-test.false) at l.invariant.3)
 
 pub put_digits_spec : {M : Type 1} → statement M
 put_digits_spec =
     tie.close
     (tie.spec
-    invariant-loop
-    decreases-loop
-    loop-holds
-    cast-bits
-    add-bits
-    slice-write-bits
-    add-i
-    loop-less
-    loop-again
-    same_length
+    invariant-loop-i
+    decreases-loop-i
+    loop-i-init
+    overflow_cast-bits
+    overflow_add-bits
+    bounds-bits-at
+    overflow_add-i
+    loop-i-smaller
+    loop-i-preserved
+    shape_of-bits
     returns)

@@ -33,59 +33,59 @@ small bits at n i binary few =
     omega
     (arith, value-take-below (n - i) (drop at bits) (bits-drop at bits binary), pow_mono {j = 31} short)
 
-abbrev invariant-loop : tie.invariant-loop
-invariant-loop bits at n i₀ sum₀ i sum = (i ≤ n) × (sum ≡ value (take (n - i) (drop (at + i) bits)))
+abbrev invariant-loop-i : tie.invariant-loop-i
+invariant-loop-i bits at n i₀ sum₀ i sum = (i ≤ n) × (sum ≡ value (take (n - i) (drop (at + i) bits)))
 
-abbrev decreases-loop : tie.decreases-loop
-decreases-loop bits at n i₀ sum₀ i sum = i
+abbrev decreases-loop-i : tie.decreases-loop-i
+decreases-loop-i bits at n i₀ sum₀ i sum = i
 
-loop-holds : tie.Need-loop-init invariant-loop decreases-loop
-loop-holds c = (omega arith, rw sub_self (sym value-nil))
+loop-i-init : tie.Need-loop-i-init invariant-loop-i decreases-loop-i
+loop-i-init c = (omega arith, rw sub_self (sym value-nil))
 
 -- the sum and the next bit, at the loop
-sum-small : (k : tie.At-loop invariant-loop decreases-loop) → k.loop.sum < 2 ^ 31
+sum-small : (k : tie.At-loop-i invariant-loop-i decreases-loop-i) → k.loop-i.sum < 2 ^ 31
 sum-small k =
     let a = k.before.args in
     let pre = k.before.requires in
-    omega (arith, small a.bits.now (a.at + k.loop.i) a.n k.loop.i pre.2 pre.1, k.loop.invariant.1)
+    omega (arith, small a.bits.now (a.at + k.loop-i.i) a.n k.loop-i.i pre.2 pre.1, k.loop-i.invariant.1)
 
 bit-small :
-    (k : tie.In-loop invariant-loop decreases-loop)
+    (k : tie.In-loop-i invariant-loop-i decreases-loop-i)
     → let a = k.before.before.args in
-    get_or a.bits.now (a.at + (k.before.loop.i - 1)) 0 ≤ 1
-bit-small k = let s = k.before.before in bits_at s.args.bits.now (s.args.at + (k.before.loop.i - 1)) s.requires.2
+    get_or a.bits.now (a.at + (k.before.loop-i.i - 1)) 0 ≤ 1
+bit-small k = let s = k.before.before in bits_at s.args.bits.now (s.args.at + (k.before.loop-i.i - 1)) s.requires.2
 
-sub-i : tie.Need-overflow-sub-i invariant-loop decreases-loop
-sub-i c = omega arith
+overflow_sub-i : tie.Need-overflow_sub-i invariant-loop-i decreases-loop-i
+overflow_sub-i c = omega arith
 
-mul-sum : tie.Need-overflow-mul-sum invariant-loop decreases-loop
-mul-sum c = omega (arith, sum-small c.before)
+overflow_mul-sum : tie.Need-overflow_mul-sum invariant-loop-i decreases-loop-i
+overflow_mul-sum c = omega (arith, sum-small c.before)
 
-add-sum : tie.Need-overflow-add-sum invariant-loop decreases-loop
-add-sum c = omega arith
+overflow_add-sum : tie.Need-overflow_add-sum invariant-loop-i decreases-loop-i
+overflow_add-sum c = omega arith
 
-shared-slice-read-sum : tie.Need-shared-slice-read-sum invariant-loop decreases-loop
-shared-slice-read-sum c = omega arith
+bounds-bits-at : tie.Need-bounds-bits-at invariant-loop-i decreases-loop-i
+bounds-bits-at c = omega arith
 
-cast-sum : tie.Need-overflow-cast-sum invariant-loop decreases-loop
-cast-sum c = omega (arith, bit-small c.before)
+overflow_cast-sum : tie.Need-overflow_cast-sum invariant-loop-i decreases-loop-i
+overflow_cast-sum c = omega (arith, bit-small c.before)
 
-add-sum-2 : tie.Need-overflow-add-sum-2 invariant-loop decreases-loop
-add-sum-2 c = omega (arith, sum-small c.before.before, bit-small c.before)
+overflow_add-sum-in-loop-i : tie.Need-overflow_add-sum-in-loop-i invariant-loop-i decreases-loop-i
+overflow_add-sum-in-loop-i c = omega (arith, sum-small c.before.before, bit-small c.before)
 
-loop-less : tie.Need-loop-smaller invariant-loop decreases-loop
-loop-less c = omega arith
+loop-i-smaller : tie.Need-loop-i-smaller invariant-loop-i decreases-loop-i
+loop-i-smaller c = omega arith
 
-loop-again : tie.Need-loop-preserved invariant-loop decreases-loop
-loop-again c =
-    let l = c.before.before.loop in
+loop-i-preserved : tie.Need-loop-i-preserved invariant-loop-i decreases-loop-i
+loop-i-preserved c =
+    let l = c.before.before.loop-i in
     let a = c.before.before.before.args in
     let sum = ap (λ (x : ℕ). 2 * x + get_or a.bits.now (a.at + (l.i - 1)) 0) l.invariant.1 in
     (omega arith, sum ∙ more _ _ _ _ (omega arith) l.invariant.0 (omega arith))
 
-returns : tie.Need-returns invariant-loop decreases-loop
+returns : tie.Need-returns invariant-loop-i decreases-loop-i
 returns c =
-    let l = c.before.loop in
+    let l = c.before.loop-i in
     let done : l.i ≡ 0 = omega arith in
     l.invariant.1 ∙ rw (done, sub-zero, add-zero)
 
@@ -93,15 +93,15 @@ pub value_at_spec : {M : Type 1} → statement M
 value_at_spec =
     tie.close
     (tie.spec
-    invariant-loop
-    decreases-loop
-    loop-holds
-    sub-i
-    mul-sum
-    add-sum
-    shared-slice-read-sum
-    cast-sum
-    add-sum-2
-    loop-less
-    loop-again
+    invariant-loop-i
+    decreases-loop-i
+    loop-i-init
+    overflow_sub-i
+    overflow_mul-sum
+    overflow_add-sum
+    bounds-bits-at
+    overflow_cast-sum
+    overflow_add-sum-in-loop-i
+    loop-i-smaller
+    loop-i-preserved
     returns)

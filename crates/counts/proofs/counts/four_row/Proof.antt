@@ -25,91 +25,91 @@ first m some =
     let product : g2 m 0 * g2 m (0 - 0) ≡ 1 = rw none (ap (λ (x : ℕ). x * x) one) in
     omega (arith, product, sum-suc (λ p. g2 m p * g2 m (0 - p)) 0, sum-zero (λ p. g2 m p * g2 m (0 - p)))
 
-abbrev invariant-loop : tie.invariant-loop
-invariant-loop m pairs end sums row₀ p₀ row p = Filled (g4 m) 137 row p × (1 ≤ p)
+abbrev invariant-loop-p : tie.invariant-loop-p
+invariant-loop-p m pairs end sums row₀ p₀ row p = Filled (g4 m) 137 row p × (1 ≤ p)
 
-abbrev decreases-loop : tie.decreases-loop
-decreases-loop m pairs end sums row₀ p₀ row p = end - p
+abbrev decreases-loop-p : tie.decreases-loop-p
+decreases-loop-p m pairs end sums row₀ p₀ row p = end - p
 
 -- a step more leaves fewer
 less : (end p : ℕ) → p < end → end - (p + 1) < end - p
 less end p h = omega arith
 
-mul-end : tie.Need-overflow-mul-end invariant-loop decreases-loop
-mul-end c = search rules
+overflow_mul-end : tie.Need-overflow_mul-end invariant-loop-p decreases-loop-p
+overflow_mul-end c = search rules
 
-sub-end : tie.Need-overflow-sub-end invariant-loop decreases-loop
-sub-end c = search rules
+overflow_sub-end : tie.Need-overflow_sub-end invariant-loop-p decreases-loop-p
+overflow_sub-end c = search rules
 
-pair-sums-requires : tie.Need-pair-sums-requires invariant-loop decreases-loop
-pair-sums-requires c κs = search rules
+pair_sums-sums-requires : tie.Need-pair_sums-sums-requires invariant-loop-p decreases-loop-p
+pair_sums-sums-requires c κs = search rules
 
-array-write-row : tie.Need-array-write-row invariant-loop decreases-loop
-array-write-row c = search rules
+bounds-row-0 : tie.Need-bounds-row-0 invariant-loop-p decreases-loop-p
+bounds-row-0 c = search rules
 
-loop-holds : tie.Need-loop-init invariant-loop decreases-loop
-loop-holds c =
+loop-p-init : tie.Need-loop-p-init invariant-loop-p decreases-loop-p
+loop-p-init c =
     let s = c.before in
     (filled_more 1 (filled_none (g4 s.args.m) 137) (omega arith) (first s.args.m s.requires.0.low), omega arith)
 
 -- below the end there is room
-inside : (k : tie.In-loop invariant-loop decreases-loop) → k.before.loop.p ≤ 68
-inside k = omega (arith, k.loop-test.true, k.before.before.before.requires.0.high)
+inside : (k : tie.In-loop-p invariant-loop-p decreases-loop-p) → k.before.loop-p.p ≤ 68
+inside k = omega (arith, k.loop-p-test.true, k.before.before.before.requires.0.high)
 
-sub-next-four : tie.Need-overflow-sub-next-four invariant-loop decreases-loop
-sub-next-four c = c.before.before.loop.invariant.1
+overflow_sub-p : tie.Need-overflow_sub-p invariant-loop-p decreases-loop-p
+overflow_sub-p c = c.before.before.loop-p.invariant.1
 
-mul-next-four : tie.Need-overflow-mul-next-four invariant-loop decreases-loop
-mul-next-four c = omega (arith, inside c.before)
+offset_bounds-row-p : tie.Need-offset_bounds-row-p invariant-loop-p decreases-loop-p
+offset_bounds-row-p c = omega (arith, inside c.before)
 
-array-read-next-four : tie.Need-array-read-next-four invariant-loop decreases-loop
-array-read-next-four c = omega (arith, inside c.before)
+bounds-row-p : tie.Need-bounds-row-p invariant-loop-p decreases-loop-p
+bounds-row-p c = omega (arith, inside c.before)
 
-next-four-requires : tie.Need-next-four-requires invariant-loop decreases-loop
-next-four-requires c κs =
+next_four-requires : tie.Need-next_four-requires invariant-loop-p decreases-loop-p
+next_four-requires c κs =
     let l = c.before.before in
     let s = l.before.before in
-    let from = l.loop.invariant.1 in
-    (s.requires.0, (l.before.pair-sums.ensures, (from, inside c.before, l.loop.invariant.0.done (l.loop.p - 1) (omega (arith, from)))))
+    let from = l.loop-p.invariant.1 in
+    (s.requires.0, (l.before.pair_sums-sums.ensures, (from, inside c.before, l.loop-p.invariant.0.done (l.loop-p.p - 1) (omega (arith, from)))))
 
-mul-row : tie.Need-overflow-mul-row invariant-loop decreases-loop
-mul-row c = omega (arith, inside c.before.before)
+offset_bounds-row-p-in-loop-p : tie.Need-offset_bounds-row-p-in-loop-p invariant-loop-p decreases-loop-p
+offset_bounds-row-p-in-loop-p c = omega (arith, inside c.before.before)
 
-array-write-row-2 : tie.Need-array-write-row-2 invariant-loop decreases-loop
-array-write-row-2 c = omega (arith, inside c.before.before)
+bounds-row-p-in-loop-p : tie.Need-bounds-row-p-in-loop-p invariant-loop-p decreases-loop-p
+bounds-row-p-in-loop-p c = omega (arith, inside c.before.before)
 
-add-p : tie.Need-overflow-add-p invariant-loop decreases-loop
-add-p c = omega (arith, inside c.before.before)
+overflow_add-p : tie.Need-overflow_add-p invariant-loop-p decreases-loop-p
+overflow_add-p c = omega (arith, inside c.before.before)
 
-loop-less : tie.Need-loop-smaller invariant-loop decreases-loop
-loop-less c = let k = c.before.before in less _ _ k.loop-test.true
+loop-p-smaller : tie.Need-loop-p-smaller invariant-loop-p decreases-loop-p
+loop-p-smaller c = let k = c.before.before in less _ _ k.loop-p-test.true
 
-loop-again : tie.Need-loop-preserved invariant-loop decreases-loop
-loop-again c =
+loop-p-preserved : tie.Need-loop-p-preserved invariant-loop-p decreases-loop-p
+loop-p-preserved c =
     let k = c.before.before in
-    (filled_more c.next-four.result k.before.loop.invariant.0 (omega (arith, inside k)) c.next-four.ensures, omega arith)
+    (filled_more c.next_four.result k.before.loop-p.invariant.0 (omega (arith, inside k)) c.next_four.ensures, omega arith)
 
-returns : tie.Need-returns invariant-loop decreases-loop
-returns c = filled-whole c.before.loop.invariant.0 (λ k l. g4-ends c.before.before.before.args.m k (omega arith))
+returns : tie.Need-returns invariant-loop-p decreases-loop-p
+returns c = filled-whole c.before.loop-p.invariant.0 (λ k l. g4-ends c.before.before.before.args.m k (omega arith))
 
 pub four_row_spec : {M : Type 1} → statement M
 four_row_spec =
     tie.close
     (tie.spec
-    invariant-loop
-    decreases-loop
-    mul-end
-    sub-end
-    pair-sums-requires
-    array-write-row
-    loop-holds
-    sub-next-four
-    mul-next-four
-    array-read-next-four
-    next-four-requires
-    mul-row
-    array-write-row-2
-    add-p
-    loop-less
-    loop-again
+    invariant-loop-p
+    decreases-loop-p
+    overflow_mul-end
+    overflow_sub-end
+    pair_sums-sums-requires
+    bounds-row-0
+    loop-p-init
+    overflow_sub-p
+    offset_bounds-row-p
+    bounds-row-p
+    next_four-requires
+    offset_bounds-row-p-in-loop-p
+    bounds-row-p-in-loop-p
+    overflow_add-p
+    loop-p-smaller
+    loop-p-preserved
     returns)

@@ -9,20 +9,20 @@ use Rattle.listing.specs.Counts.{g2}
 use Rattle.counts.proofs.counts.lighter_pairs.Statement.{statement}
 use Rattle.counts.proofs.counts.lighter_pairs.Tie as tie
 
-returns : tie.Need-returns
-returns c =
+returns-then-n-k : tie.Need-returns-then-n-k
+returns-then-n-k c =
     let a = c.before.args in
-    let none : a.n - a.k ≡ 0 = omega (arith, c.if1.true) in
+    let none : a.n - a.k ≡ 0 = omega (arith, c.if-n-k.true) in
     sym (ap (sum (g2 a.m)) none ∙ sum-zero (g2 a.m))
 
-mul-result : tie.Need-overflow-mul-result
-mul-result c = search rules
+offset_bounds-sums-n : tie.Need-offset_bounds-sums-n
+offset_bounds-sums-n c = search rules
 
-element-copy-out-result : tie.Need-element-copy-out-result
-element-copy-out-result c = search rules
+bounds-sums-n : tie.Need-bounds-sums-n
+bounds-sums-n c = search rules
 
-returns-2 : tie.Need-returns-2
-returns-2 c = let s = c.before.before in let a = s.args in s.requires.1 (a.n - a.k) (omega (arith, s.requires.0))
+returns : tie.Need-returns
+returns c = let s = c.before.before in let a = s.args in s.requires.1 (a.n - a.k) (omega (arith, s.requires.0))
 
 pub lighter_pairs_spec : {M : Type 1} → statement M
-lighter_pairs_spec = tie.close (tie.spec returns mul-result element-copy-out-result returns-2)
+lighter_pairs_spec = tie.close (tie.spec returns-then-n-k offset_bounds-sums-n bounds-sums-n returns)

@@ -47,52 +47,52 @@ step_to m p before all fallen gone some few from to is-before is_all is-fallen i
       few = omega (arith, is-fallen, few-pairs m (p + 1 - m) few (omega arith));
     }
 
-add-lighter-pairs : tie.Need-overflow-add-lighter-pairs
-add-lighter-pairs c = search rules
+overflow_add-p : tie.Need-overflow_add-p
+overflow_add-p c = search rules
 
-lighter-pairs-requires : tie.Need-lighter-pairs-requires
-lighter-pairs-requires c κs = search rules
+lighter_pairs-all-requires : tie.Need-lighter_pairs-all-requires
+lighter_pairs-all-requires c κs = search rules
 
-add-lighter-pairs-2 : tie.Need-overflow-add-lighter-pairs-2
-add-lighter-pairs-2 c = search rules
+overflow_add-p-2 : tie.Need-overflow_add-p-2
+overflow_add-p-2 c = search rules
 
-lighter-pairs-requires-2 : tie.Need-lighter-pairs-requires-2
-lighter-pairs-requires-2 c κs = search rules
+lighter_pairs-fallen-requires : tie.Need-lighter_pairs-fallen-requires
+lighter_pairs-fallen-requires c κs = search rules
 
-add-lighter-pairs-3 : tie.Need-overflow-add-lighter-pairs-3
-add-lighter-pairs-3 c = search rules
+overflow_add-p-3 : tie.Need-overflow_add-p-3
+overflow_add-p-3 c = search rules
 
-mul-lighter-pairs : tie.Need-overflow-mul-lighter-pairs
-mul-lighter-pairs c = search rules
+overflow_mul-k : tie.Need-overflow_mul-k
+overflow_mul-k c = search rules
 
-lighter-pairs-requires-3 : tie.Need-lighter-pairs-requires-3
-lighter-pairs-requires-3 c κs = search rules
+lighter_pairs-gone-requires : tie.Need-lighter_pairs-gone-requires
+lighter_pairs-gone-requires c κs = search rules
 
 -- the three sums are those of the step
 taken :
-    (k : tie.After-lighter-pairs3)
+    (k : tie.After-lighter_pairs-gone)
     → let a = k.before.before.before.args in
-    let all = k.before.before.lighter-pairs.result in
-    let fallen = k.before.lighter-pairs2.result in
-    Step a.m a.p a.before all fallen k.lighter-pairs3.result
+    let all = k.before.before.lighter_pairs-all.result in
+    let fallen = k.before.lighter_pairs-fallen.result in
+    Step a.m a.p a.before all fallen k.lighter_pairs-gone.result
 taken k =
     let s = k.before.before.before in
     let known = s.requires.0 in
     let place = s.requires.1.1 in
     step_to s.args.m s.args.p _ _ _ _ known.low known.high place.0 place.1 place.2
-    k.before.before.lighter-pairs.ensures k.before.lighter-pairs2.ensures k.lighter-pairs3.ensures
+    k.before.before.lighter_pairs-all.ensures k.before.lighter_pairs-fallen.ensures k.lighter_pairs-gone.ensures
 
-add-result : tie.Need-overflow-add-result
-add-result c = omega (arith, (taken c).small)
+overflow_add-result : tie.Need-overflow_add-result
+overflow_add-result c = omega (arith, (taken c).small)
 
-add-result-2 : tie.Need-overflow-add-result-2
-add-result-2 c = omega (arith, (taken c).small)
+overflow_add-result-2 : tie.Need-overflow_add-result-2
+overflow_add-result-2 c = omega (arith, (taken c).small)
 
-mul-result : tie.Need-overflow-mul-result
-mul-result c = omega (arith, (taken c).few)
+overflow_mul-result : tie.Need-overflow_mul-result
+overflow_mul-result c = omega (arith, (taken c).few)
 
-sub-result : tie.Need-overflow-sub-result
-sub-result c = omega (arith, (taken c).step)
+overflow_sub-result : tie.Need-overflow_sub-result
+overflow_sub-result c = omega (arith, (taken c).step)
 
 returns : tie.Need-returns
 returns c = omega (arith, (taken c).step)
@@ -101,15 +101,15 @@ pub next_four_spec : {M : Type 1} → statement M
 next_four_spec =
     tie.close
     (tie.spec
-    add-lighter-pairs
-    lighter-pairs-requires
-    add-lighter-pairs-2
-    lighter-pairs-requires-2
-    add-lighter-pairs-3
-    mul-lighter-pairs
-    lighter-pairs-requires-3
-    add-result
-    add-result-2
-    mul-result
-    sub-result
+    overflow_add-p
+    lighter_pairs-all-requires
+    overflow_add-p-2
+    lighter_pairs-fallen-requires
+    overflow_add-p-3
+    overflow_mul-k
+    lighter_pairs-gone-requires
+    overflow_add-result
+    overflow_add-result-2
+    overflow_mul-result
+    overflow_sub-result
     returns)

@@ -9,55 +9,55 @@ use Rattle.counts.proofs.Filled.{Filled, filled_none, filled_more, filled-whole}
 use Rattle.counts.proofs.counts.pair_row.Statement.{statement}
 use Rattle.counts.proofs.counts.pair_row.Tie as tie
 
-abbrev invariant-loop : tie.invariant-loop
-invariant-loop m end row₀ p₀ row p = Filled (g2 m) 69 row p
+abbrev invariant-loop-p : tie.invariant-loop-p
+invariant-loop-p m end row₀ p₀ row p = Filled (g2 m) 69 row p
 
-abbrev decreases-loop : tie.decreases-loop
-decreases-loop m end row₀ p₀ row p = end - p
+abbrev decreases-loop-p : tie.decreases-loop-p
+decreases-loop-p m end row₀ p₀ row p = end - p
 
-mul-end : tie.Need-overflow-mul-end invariant-loop decreases-loop
-mul-end c = search rules
+overflow_mul-end : tie.Need-overflow_mul-end invariant-loop-p decreases-loop-p
+overflow_mul-end c = search rules
 
-sub-end : tie.Need-overflow-sub-end invariant-loop decreases-loop
-sub-end c = search rules
+overflow_sub-end : tie.Need-overflow_sub-end invariant-loop-p decreases-loop-p
+overflow_sub-end c = search rules
 
-loop-holds : tie.Need-loop-init invariant-loop decreases-loop
-loop-holds c = filled_none (g2 c.args.m) 69
+loop-p-init : tie.Need-loop-p-init invariant-loop-p decreases-loop-p
+loop-p-init c = filled_none (g2 c.args.m) 69
 
-pair-count-requires : tie.Need-pair-count-requires invariant-loop decreases-loop
-pair-count-requires c κs = search rules
+pair_count-requires : tie.Need-pair_count-requires invariant-loop-p decreases-loop-p
+pair_count-requires c κs = search rules
 
-mul-row : tie.Need-overflow-mul-row invariant-loop decreases-loop
-mul-row c = search rules
+offset_bounds-row-p : tie.Need-offset_bounds-row-p invariant-loop-p decreases-loop-p
+offset_bounds-row-p c = search rules
 
-array-write-row : tie.Need-array-write-row invariant-loop decreases-loop
-array-write-row c = search rules
+bounds-row-p : tie.Need-bounds-row-p invariant-loop-p decreases-loop-p
+bounds-row-p c = search rules
 
-add-p : tie.Need-overflow-add-p invariant-loop decreases-loop
-add-p c = search rules
+overflow_add-p : tie.Need-overflow_add-p invariant-loop-p decreases-loop-p
+overflow_add-p c = search rules
 
-loop-less : tie.Need-loop-smaller invariant-loop decreases-loop
-loop-less c = omega arith
+loop-p-smaller : tie.Need-loop-p-smaller invariant-loop-p decreases-loop-p
+loop-p-smaller c = omega arith
 
-loop-again : tie.Need-loop-preserved invariant-loop decreases-loop
-loop-again c = filled_more c.pair-count.result c.before.before.loop.invariant (omega arith) c.pair-count.ensures
+loop-p-preserved : tie.Need-loop-p-preserved invariant-loop-p decreases-loop-p
+loop-p-preserved c = filled_more c.pair_count.result c.before.before.loop-p.invariant (omega arith) c.pair_count.ensures
 
-returns : tie.Need-returns invariant-loop decreases-loop
-returns c = filled-whole c.before.loop.invariant (λ k l. g2-ends c.before.before.args.m k (omega arith))
+returns : tie.Need-returns invariant-loop-p decreases-loop-p
+returns c = filled-whole c.before.loop-p.invariant (λ k l. g2-ends c.before.before.args.m k (omega arith))
 
 pub pair_row_spec : {M : Type 1} → statement M
 pair_row_spec =
     tie.close
     (tie.spec
-    invariant-loop
-    decreases-loop
-    mul-end
-    sub-end
-    loop-holds
-    pair-count-requires
-    mul-row
-    array-write-row
-    add-p
-    loop-less
-    loop-again
+    invariant-loop-p
+    decreases-loop-p
+    overflow_mul-end
+    overflow_sub-end
+    loop-p-init
+    pair_count-requires
+    offset_bounds-row-p
+    bounds-row-p
+    overflow_add-p
+    loop-p-smaller
+    loop-p-preserved
     returns)

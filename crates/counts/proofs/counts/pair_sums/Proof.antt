@@ -26,14 +26,14 @@ none_summed g =
       blank = λ k l. h.blank k (omega arith);
     }
 
-abbrev invariant-loop : tie.invariant-loop
-invariant-loop m pairs sums₀ n₀ sums n = Filled (sum (g2 m)) 70 sums (n + 1)
+abbrev invariant-loop-n : tie.invariant-loop-n
+invariant-loop-n m pairs sums₀ n₀ sums n = Filled (sum (g2 m)) 70 sums (n + 1)
 
-abbrev decreases-loop : tie.decreases-loop
-decreases-loop m pairs sums₀ n₀ sums n = 69 - n
+abbrev decreases-loop-n : tie.decreases-loop-n
+decreases-loop-n m pairs sums₀ n₀ sums n = 69 - n
 
-loop-holds : tie.Need-loop-init invariant-loop decreases-loop
-loop-holds c = none_summed (g2 c.args.m)
+loop-n-init : tie.Need-loop-n-init invariant-loop-n decreases-loop-n
+loop-n-init c = none_summed (g2 c.args.m)
 
 -- one number more in the sum
 one_more :
@@ -42,66 +42,66 @@ one_more :
 one_more g sums pairs n h e =
     ap₂ (λ (a b : ℕ). a + b) (h.done n (omega arith)) (ap (λ (f : ℕ → ℕ). f n) e) ∙ rw add-one (sym (sum-suc g n))
 
-mul-sums : tie.Need-overflow-mul-sums invariant-loop decreases-loop
-mul-sums c = search rules
+offset_bounds-sums-n : tie.Need-offset_bounds-sums-n invariant-loop-n decreases-loop-n
+offset_bounds-sums-n c = search rules
 
-array-read-sums : tie.Need-array-read-sums invariant-loop decreases-loop
-array-read-sums c = search rules
+bounds-sums-n : tie.Need-bounds-sums-n invariant-loop-n decreases-loop-n
+bounds-sums-n c = search rules
 
-mul-sums-2 : tie.Need-overflow-mul-sums-2 invariant-loop decreases-loop
-mul-sums-2 c = search rules
+offset_bounds-pairs-n : tie.Need-offset_bounds-pairs-n invariant-loop-n decreases-loop-n
+offset_bounds-pairs-n c = search rules
 
-element-copy-out-sums : tie.Need-element-copy-out-sums invariant-loop decreases-loop
-element-copy-out-sums c = search rules
+bounds-pairs-n : tie.Need-bounds-pairs-n invariant-loop-n decreases-loop-n
+bounds-pairs-n c = search rules
 
-add-sums : tie.Need-overflow-add-sums invariant-loop decreases-loop
-add-sums c =
+overflow_add-sums : tie.Need-overflow_add-sums invariant-loop-n decreases-loop-n
+overflow_add-sums c =
     let l = c.before.before in
     let s = l.before in
-    let more = one_more (g2 s.args.m) l.loop.sums s.args.pairs.now l.loop.n l.loop.invariant s.requires.1 in
-    omega (arith, more, few-pairs s.args.m (l.loop.n + 1) s.requires.0.high (omega (arith, c.before.loop-test.true)))
+    let more = one_more (g2 s.args.m) l.loop-n.sums s.args.pairs.now l.loop-n.n l.loop-n.invariant s.requires.1 in
+    omega (arith, more, few-pairs s.args.m (l.loop-n.n + 1) s.requires.0.high (omega (arith, c.before.loop-n-test.true)))
 
-add-sums-2 : tie.Need-overflow-add-sums-2 invariant-loop decreases-loop
-add-sums-2 c = search rules
+overflow_add-sums-in-loop-n : tie.Need-overflow_add-sums-in-loop-n invariant-loop-n decreases-loop-n
+overflow_add-sums-in-loop-n c = search rules
 
-mul-sums-3 : tie.Need-overflow-mul-sums-3 invariant-loop decreases-loop
-mul-sums-3 c = search rules
+offset_bounds-sums-n-in-loop-n : tie.Need-offset_bounds-sums-n-in-loop-n invariant-loop-n decreases-loop-n
+offset_bounds-sums-n-in-loop-n c = search rules
 
-array-write-sums : tie.Need-array-write-sums invariant-loop decreases-loop
-array-write-sums c = search rules
+bounds-sums-n-in-loop-n : tie.Need-bounds-sums-n-in-loop-n invariant-loop-n decreases-loop-n
+bounds-sums-n-in-loop-n c = search rules
 
-add-n : tie.Need-overflow-add-n invariant-loop decreases-loop
-add-n c = search rules
+overflow_add-n : tie.Need-overflow_add-n invariant-loop-n decreases-loop-n
+overflow_add-n c = search rules
 
-loop-less : tie.Need-loop-smaller invariant-loop decreases-loop
-loop-less c = search rules
+loop-n-smaller : tie.Need-loop-n-smaller invariant-loop-n decreases-loop-n
+loop-n-smaller c = search rules
 
-loop-again : tie.Need-loop-preserved invariant-loop decreases-loop
-loop-again c =
+loop-n-preserved : tie.Need-loop-n-preserved invariant-loop-n decreases-loop-n
+loop-n-preserved c =
     let l = c.before.before in
     let s = l.before in
-    filled_more _ l.loop.invariant (omega (arith, c.before.loop-test.true))
-    (one_more (g2 s.args.m) l.loop.sums s.args.pairs.now l.loop.n l.loop.invariant s.requires.1)
+    filled_more _ l.loop-n.invariant (omega (arith, c.before.loop-n-test.true))
+    (one_more (g2 s.args.m) l.loop-n.sums s.args.pairs.now l.loop-n.n l.loop-n.invariant s.requires.1)
 
-returns : tie.Need-returns invariant-loop decreases-loop
-returns c n h = c.before.loop.invariant.done n (omega (arith, h, c.loop-test.false))
+returns : tie.Need-returns invariant-loop-n decreases-loop-n
+returns c n h = c.before.loop-n.invariant.done n (omega (arith, h, c.loop-n-test.false))
 
 pub pair_sums_spec : {M : Type 1} → statement M
 pair_sums_spec =
     tie.close
     (tie.spec
-    invariant-loop
-    decreases-loop
-    loop-holds
-    mul-sums
-    array-read-sums
-    mul-sums-2
-    element-copy-out-sums
-    add-sums
-    add-sums-2
-    mul-sums-3
-    array-write-sums
-    add-n
-    loop-less
-    loop-again
+    invariant-loop-n
+    decreases-loop-n
+    loop-n-init
+    offset_bounds-sums-n
+    bounds-sums-n
+    offset_bounds-pairs-n
+    bounds-pairs-n
+    overflow_add-sums
+    overflow_add-sums-in-loop-n
+    offset_bounds-sums-n-in-loop-n
+    bounds-sums-n-in-loop-n
+    overflow_add-n
+    loop-n-smaller
+    loop-n-preserved
     returns)

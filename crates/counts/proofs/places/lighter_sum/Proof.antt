@@ -9,74 +9,74 @@ use Rattle.counts.specs.Counts.{at}
 use Rattle.counts.proofs.places.lighter_sum.Statement.{statement}
 use Rattle.counts.proofs.places.lighter_sum.Tie as tie
 
-abbrev invariant-loop : tie.invariant-loop
-invariant-loop row t b sum₀ p₀ sum p = (p ≤ b) × (sum ≡ lighter (at row) t p)
+abbrev invariant-loop-p : tie.invariant-loop-p
+invariant-loop-p row t b sum₀ p₀ sum p = (p ≤ b) × (sum ≡ lighter (at row) t p)
 
-abbrev decreases-loop : tie.decreases-loop
-decreases-loop row t b sum₀ p₀ sum p = b - p
+abbrev decreases-loop-p : tie.decreases-loop-p
+decreases-loop-p row t b sum₀ p₀ sum p = b - p
 
-loop-holds : tie.Need-loop-init invariant-loop decreases-loop
-loop-holds c = omega (arith, lighter-zero (at c.args.row.now) c.args.t)
+loop-p-init : tie.Need-loop-p-init invariant-loop-p decreases-loop-p
+loop-p-init c = omega (arith, lighter-zero (at c.args.row.now) c.args.t)
 
-mul-sum : tie.Need-overflow-mul-sum invariant-loop decreases-loop
-mul-sum c = omega arith
+offset_bounds-row-p : tie.Need-offset_bounds-row-p invariant-loop-p decreases-loop-p
+offset_bounds-row-p c = omega arith
 
-shared-slice-read-sum : tie.Need-shared-slice-read-sum invariant-loop decreases-loop
-shared-slice-read-sum c = omega arith
+bounds-row-p : tie.Need-bounds-row-p invariant-loop-p decreases-loop-p
+bounds-row-p c = omega arith
 
-sub-sum : tie.Need-overflow-sub-sum invariant-loop decreases-loop
-sub-sum c = omega arith
+overflow_sub-sum : tie.Need-overflow_sub-sum invariant-loop-p decreases-loop-p
+overflow_sub-sum c = omega arith
 
-mul-sum-2 : tie.Need-overflow-mul-sum-2 invariant-loop decreases-loop
-mul-sum-2 c = omega arith
+offset_bounds-row-t : tie.Need-offset_bounds-row-t invariant-loop-p decreases-loop-p
+offset_bounds-row-t c = omega arith
 
-shared-slice-read-sum-2 : tie.Need-shared-slice-read-sum-2 invariant-loop decreases-loop
-shared-slice-read-sum-2 c = omega arith
+bounds-row-t : tie.Need-bounds-row-t invariant-loop-p decreases-loop-p
+bounds-row-t c = omega arith
 
 -- the product of this turn, and what stands before it, are part of the whole
 part :
-    (c : tie.In-loop invariant-loop decreases-loop)
+    (c : tie.In-loop-p invariant-loop-p decreases-loop-p)
     → let g = at c.before.before.args.row.now in
     let t = c.before.before.args.t in
-    let p = c.before.loop.p in
+    let p = c.before.loop-p.p in
     lighter g t p + g p * g (t - p) ≤ lighter g t c.before.before.args.b
-part c = lighter-rises _ _ _ _ c.loop-test.true
+part c = lighter-rises _ _ _ _ c.loop-p-test.true
 
-mul-sum-3 : tie.Need-overflow-mul-sum-3 invariant-loop decreases-loop
-mul-sum-3 c = omega (arith, part c.before.before)
+overflow_mul-sum : tie.Need-overflow_mul-sum invariant-loop-p decreases-loop-p
+overflow_mul-sum c = omega (arith, part c.before.before)
 
-add-sum : tie.Need-overflow-add-sum invariant-loop decreases-loop
-add-sum c = omega (arith, part c.before.before)
+overflow_add-sum : tie.Need-overflow_add-sum invariant-loop-p decreases-loop-p
+overflow_add-sum c = omega (arith, part c.before.before)
 
-add-p : tie.Need-overflow-add-p invariant-loop decreases-loop
-add-p c = omega arith
+overflow_add-p : tie.Need-overflow_add-p invariant-loop-p decreases-loop-p
+overflow_add-p c = omega arith
 
-loop-less : tie.Need-loop-smaller invariant-loop decreases-loop
-loop-less c = omega arith
+loop-p-smaller : tie.Need-loop-p-smaller invariant-loop-p decreases-loop-p
+loop-p-smaller c = omega arith
 
-loop-again : tie.Need-loop-preserved invariant-loop decreases-loop
-loop-again c =
+loop-p-preserved : tie.Need-loop-p-preserved invariant-loop-p decreases-loop-p
+loop-p-preserved c =
     let k = c.before.before.before in
-    omega (arith, lighter-more (at k.before.args.row.now) k.before.args.t k.loop.p)
+    omega (arith, lighter-more (at k.before.args.row.now) k.before.args.t k.loop-p.p)
 
-returns : tie.Need-returns invariant-loop decreases-loop
-returns c = c.before.loop.invariant.1 ∙ ap (lighter _ _) (omega arith)
+returns : tie.Need-returns invariant-loop-p decreases-loop-p
+returns c = c.before.loop-p.invariant.1 ∙ ap (lighter _ _) (omega arith)
 
 pub lighter_sum_spec : {M : Type 1} → statement M
 lighter_sum_spec =
     tie.close
     (tie.spec
-    invariant-loop
-    decreases-loop
-    loop-holds
-    mul-sum
-    shared-slice-read-sum
-    sub-sum
-    mul-sum-2
-    shared-slice-read-sum-2
-    mul-sum-3
-    add-sum
-    add-p
-    loop-less
-    loop-again
+    invariant-loop-p
+    decreases-loop-p
+    loop-p-init
+    offset_bounds-row-p
+    bounds-row-p
+    overflow_sub-sum
+    offset_bounds-row-t
+    bounds-row-t
+    overflow_mul-sum
+    overflow_add-sum
+    overflow_add-p
+    loop-p-smaller
+    loop-p-preserved
     returns)

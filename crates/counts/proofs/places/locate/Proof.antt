@@ -6,86 +6,86 @@ use native.Mathlib.Omega.{arith}
 use Rattle.listing.specs.Counts.{lighter}
 use Rattle.listing.proofs.Bounds.{lighter-zero, lighter-more, lighter-rises}
 use Rattle.counts.specs.Counts.{at}
-use Rattle.counts.proofs.Located.{located-within, located_last}
+use Rattle.counts.proofs.Placed.{located-within, located_last}
 use Rattle.counts.proofs.places.locate.Statement.{statement}
 use Rattle.counts.proofs.places.locate.Tie as tie
 
-abbrev invariant-loop : tie.invariant-loop
-invariant-loop row t r b₀ rest₀ b rest = (b ≤ t) × (lighter (at row) t b + rest ≡ r)
+abbrev invariant-loop-b : tie.invariant-loop-b
+invariant-loop-b row t r b₀ rest₀ b rest = (b ≤ t) × (lighter (at row) t b + rest ≡ r)
 
-abbrev decreases-loop : tie.decreases-loop
-decreases-loop row t r b₀ rest₀ b rest = t - b
+abbrev decreases-loop-b : tie.decreases-loop-b
+decreases-loop-b row t r b₀ rest₀ b rest = t - b
 
-loop-holds : tie.Need-loop-init invariant-loop decreases-loop
-loop-holds c = omega (arith, lighter-zero (at c.args.row.now) c.args.t)
+loop-b-init : tie.Need-loop-b-init invariant-loop-b decreases-loop-b
+loop-b-init c = omega (arith, lighter-zero (at c.args.row.now) c.args.t)
 
-mul-product : tie.Need-overflow-mul-product invariant-loop decreases-loop
-mul-product c = omega arith
+offset_bounds-row-b : tie.Need-offset_bounds-row-b invariant-loop-b decreases-loop-b
+offset_bounds-row-b c = omega arith
 
-shared-slice-read-product : tie.Need-shared-slice-read-product invariant-loop decreases-loop
-shared-slice-read-product c = omega arith
+bounds-row-b : tie.Need-bounds-row-b invariant-loop-b decreases-loop-b
+bounds-row-b c = omega arith
 
-sub-product : tie.Need-overflow-sub-product invariant-loop decreases-loop
-sub-product c = omega arith
+overflow_sub-product : tie.Need-overflow_sub-product invariant-loop-b decreases-loop-b
+overflow_sub-product c = omega arith
 
-mul-product-2 : tie.Need-overflow-mul-product-2 invariant-loop decreases-loop
-mul-product-2 c = omega arith
+offset_bounds-row-t : tie.Need-offset_bounds-row-t invariant-loop-b decreases-loop-b
+offset_bounds-row-t c = omega arith
 
-shared-slice-read-product-2 : tie.Need-shared-slice-read-product-2 invariant-loop decreases-loop
-shared-slice-read-product-2 c = omega arith
+bounds-row-t : tie.Need-bounds-row-t invariant-loop-b decreases-loop-b
+bounds-row-t c = omega arith
 
 -- the product of this turn, and what stands before it, are part of the whole
 part :
-    (c : tie.In-loop invariant-loop decreases-loop)
+    (c : tie.In-loop-b invariant-loop-b decreases-loop-b)
     → let g = at c.before.before.args.row.now in
     let t = c.before.before.args.t in
-    let b = c.before.loop.b in
+    let b = c.before.loop-b.b in
     lighter g t b + g b * g (t - b) ≤ lighter g t (suc t)
 part c = lighter-rises _ _ _ _ (omega arith)
 
 -- the loop's turn, seen from where its product is known
-abbrev turn : tie.After-shared-slice-known2 invariant-loop decreases-loop → tie.At-loop invariant-loop decreases-loop
+abbrev turn : tie.After-shared_slice_known-in-loop-b-1 invariant-loop-b decreases-loop-b → tie.At-loop-b invariant-loop-b decreases-loop-b
 turn k = k.before.before.before
 
-mul-product-3 : tie.Need-overflow-mul-product-3 invariant-loop decreases-loop
-mul-product-3 c = omega (arith, part c.before.before)
+overflow_mul-product : tie.Need-overflow_mul-product invariant-loop-b decreases-loop-b
+overflow_mul-product c = omega (arith, part c.before.before)
 
-returns : tie.Need-returns invariant-loop decreases-loop
-returns c =
-    let k = (turn c.before).loop in
-    located-within _ _ _ _ _ k.inv.0 k.inv.1 c.if1.true
+returns-then-rest-product : tie.Need-returns-then-rest-product invariant-loop-b decreases-loop-b
+returns-then-rest-product c =
+    let k = (turn c.before).loop-b in
+    located-within _ _ _ _ _ k.invariant.0 k.invariant.1 c.if-rest-product.true
 
-add-b : tie.Need-overflow-add-b invariant-loop decreases-loop
-add-b c = omega arith
+overflow_add-b : tie.Need-overflow_add-b invariant-loop-b decreases-loop-b
+overflow_add-b c = omega arith
 
-loop-less : tie.Need-loop-smaller invariant-loop decreases-loop
-loop-less c = omega arith
+loop-b-smaller : tie.Need-loop-b-smaller invariant-loop-b decreases-loop-b
+loop-b-smaller c = omega arith
 
-loop-again : tie.Need-loop-preserved invariant-loop decreases-loop
-loop-again c =
+loop-b-preserved : tie.Need-loop-b-preserved invariant-loop-b decreases-loop-b
+loop-b-preserved c =
     let k = turn c.before in
-    omega (arith, lighter-more (at k.before.args.row.now) k.before.args.t k.loop.b)
+    omega (arith, lighter-more (at k.before.args.row.now) k.before.args.t k.loop-b.b)
 
-returns-2 : tie.Need-returns-2 invariant-loop decreases-loop
-returns-2 c =
-    let k = c.before.loop in
-    located_last _ _ _ _ _ k.invariant.0 c.loop-test.false k.invariant.1 c.before.before.requires.below
+returns : tie.Need-returns invariant-loop-b decreases-loop-b
+returns c =
+    let k = c.before.loop-b in
+    located_last _ _ _ _ _ k.invariant.0 c.loop-b-test.false k.invariant.1 c.before.before.requires.below
 
 pub locate_spec : {M : Type 1} → statement M
 locate_spec =
     tie.close
     (tie.spec
-    invariant-loop
-    decreases-loop
-    loop-holds
-    mul-product
-    shared-slice-read-product
-    sub-product
-    mul-product-2
-    shared-slice-read-product-2
-    mul-product-3
-    returns
-    add-b
-    loop-less
-    loop-again
-    returns-2)
+    invariant-loop-b
+    decreases-loop-b
+    loop-b-init
+    offset_bounds-row-b
+    bounds-row-b
+    overflow_sub-product
+    offset_bounds-row-t
+    bounds-row-t
+    overflow_mul-product
+    returns-then-rest-product
+    overflow_add-b
+    loop-b-smaller
+    loop-b-preserved
+    returns)

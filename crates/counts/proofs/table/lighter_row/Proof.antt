@@ -35,29 +35,29 @@ row_of m known = record {
     next : suc (m - 1) ≡ m
     next = omega arith
 
-sub-before : tie.Need-overflow-sub-before
-sub-before c = search rules
+overflow_sub-before : tie.Need-overflow_sub-before
+overflow_sub-before c = search rules
 
-mul-part-of : tie.Need-overflow-mul-part-of
-mul-part-of c = omega (arith, row_of c.before.args.m c.before.requires)
+overflow_mul-before : tie.Need-overflow_mul-before
+overflow_mul-before c = omega (arith, row_of c.before.args.m c.before.requires)
 
-mul-part-of-2 : tie.Need-overflow-mul-part-of-2
-mul-part-of-2 c = omega (arith, row_of c.before.args.m c.before.requires)
+overflow_mul-before-2 : tie.Need-overflow_mul-before-2
+overflow_mul-before-2 c = omega (arith, row_of c.before.args.m c.before.requires)
 
-mul-part-of-3 : tie.Need-overflow-mul-part-of-3
-mul-part-of-3 c = search rules
+overflow_mul-before-3 : tie.Need-overflow_mul-before-3
+overflow_mul-before-3 c = search rules
 
-sub-part-of : tie.Need-overflow-sub-part-of
-sub-part-of c = (row_of c.before.args.m c.before.requires).low
+overflow_sub-before-2 : tie.Need-overflow_sub-before-2
+overflow_sub-before-2 c = (row_of c.before.args.m c.before.requires).low
 
-mul-part-of-4 : tie.Need-overflow-mul-part-of-4
-mul-part-of-4 c = search rules
+overflow_mul-before-4 : tie.Need-overflow_mul-before-4
+overflow_mul-before-4 c = search rules
 
-add-part-of : tie.Need-overflow-add-part-of
-add-part-of c = search rules
+overflow_add-before : tie.Need-overflow_add-before
+overflow_add-before c = search rules
 
-part-of-requires : tie.Need-part-of-requires
-part-of-requires c κs = ((row_of c.before.args.m c.before.requires).inside, omega arith)
+part_of-requires : tie.Need-part_of-requires
+part_of-requires c κs = ((row_of c.before.args.m c.before.requires).inside, omega arith)
 
 -- the table is computed here: what `part_of` ensures speaks of its 1,242 numbers, and what the row says of those of `rows 18`
 returns : tie.Need-returns
@@ -70,12 +70,12 @@ pub lighter_row_spec : {M : Type 1} → statement M
 lighter_row_spec =
     tie.close
     (tie.spec
-    sub-before
-    mul-part-of
-    mul-part-of-2
-    mul-part-of-3
-    sub-part-of
-    mul-part-of-4
-    add-part-of
-    part-of-requires
+    overflow_sub-before
+    overflow_mul-before
+    overflow_mul-before-2
+    overflow_mul-before-3
+    overflow_sub-before-2
+    overflow_mul-before-4
+    overflow_add-before
+    part_of-requires
     returns)

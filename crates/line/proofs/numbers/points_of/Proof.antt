@@ -19,18 +19,18 @@ small : (c : tie.Start) → 4 * c.args.rings * 2 ^ c.args.uncoded ≤ 36864
 small c =
     mul-le-mul {n₁ = 4 * c.args.rings} {n₂ = 72} (omega arith) (pow_mono {j = 9} c.requires.1)
 
-mul-result : tie.Need-overflow-mul-result
-mul-result c = search rules
+overflow_mul-result : tie.Need-overflow_mul-result
+overflow_mul-result c = search rules
 
-shl-result : tie.Need-overflow-shl-result
-shl-result c = search rules
+overflow_shl-result : tie.Need-overflow_shl-result
+overflow_shl-result c = search rules
 
-mul-result-2 : tie.Need-overflow-mul-result-2
-mul-result-2 c = rw (shifted c) (omega (arith, small c))
+overflow_mul-result-2 : tie.Need-overflow_mul-result-2
+overflow_mul-result-2 c = rw (shifted c) (omega (arith, small c))
 
 returns : tie.Need-returns
 unfolding points_of
 returns c = rw (shifted c)
 
 pub points_of_spec : {M : Type 1} → statement M
-points_of_spec = tie.close (tie.spec mul-result shl-result mul-result-2 returns)
+points_of_spec = tie.close (tie.spec overflow_mul-result overflow_shl-result overflow_mul-result-2 returns)

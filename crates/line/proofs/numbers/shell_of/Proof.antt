@@ -5,20 +5,20 @@ use borrow.Author.Rules.{rules}
 use Rattle.line.proofs.numbers.shell_of.Statement.{statement}
 use Rattle.line.proofs.numbers.shell_of.Tie as tie
 
+returns-then-high-le12 : tie.Need-returns-then-high-le12
+returns-then-high-le12 c = omega (arith, shell_is c.before.args.high)
+
+overflow_sub-result : tie.Need-overflow_sub-result
+overflow_sub-result c = search rules
+
+overflow_mul-result : tie.Need-overflow_mul-result
+overflow_mul-result c = omega (arith, uncoded_is c.before.args.high)
+
+overflow_sub-result-2 : tie.Need-overflow_sub-result-2
+overflow_sub-result-2 c = omega (arith, uncoded_is c.before.args.high)
+
 returns : tie.Need-returns
-returns c = omega (arith, shell_is c.before.args.high)
-
-sub-result : tie.Need-overflow-sub-result
-sub-result c = search rules
-
-mul-result : tie.Need-overflow-mul-result
-mul-result c = omega (arith, uncoded_is c.before.args.high)
-
-sub-result-2 : tie.Need-overflow-sub-result-2
-sub-result-2 c = omega (arith, uncoded_is c.before.args.high)
-
-returns-2 : tie.Need-returns-2
-returns-2 c = omega (arith, uncoded_is c.before.args.high, shell_is c.before.args.high)
+returns c = omega (arith, uncoded_is c.before.args.high, shell_is c.before.args.high)
 
 pub shell_of_spec : {M : Type 1} → statement M
-shell_of_spec = tie.close (tie.spec returns sub-result mul-result sub-result-2 returns-2)
+shell_of_spec = tie.close (tie.spec returns-then-high-le12 overflow_sub-result overflow_mul-result overflow_sub-result-2 returns)

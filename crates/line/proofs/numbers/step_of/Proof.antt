@@ -15,18 +15,18 @@ some c = rw c.requires.2 (high-some c.args.bits c.args.frames c.requires.0 c.req
 fewer : (c : tie.Start) → (c.args.high - 1) * c.args.frames < c.args.bits
 fewer c = rw c.requires.2 (high-fewer c.args.bits c.args.frames c.requires.0 c.requires.1)
 
-sub-result : tie.Need-overflow-sub-result
-sub-result c = some c
+overflow_sub-result : tie.Need-overflow_sub-result
+overflow_sub-result c = some c
 
-mul-result : tie.Need-overflow-mul-result
-mul-result c = omega (arith, fewer c)
+overflow_mul-result : tie.Need-overflow_mul-result
+overflow_mul-result c = omega (arith, fewer c)
 
-sub-result-2 : tie.Need-overflow-sub-result-2
-sub-result-2 c = omega (arith, fewer c)
+overflow_sub-result-2 : tie.Need-overflow_sub-result-2
+overflow_sub-result-2 c = omega (arith, fewer c)
 
 returns : tie.Need-returns
 unfolding step_of
 returns c = refl
 
 pub step_of_spec : {M : Type 1} → statement M
-step_of_spec = tie.close (tie.spec sub-result mul-result sub-result-2 returns)
+step_of_spec = tie.close (tie.spec overflow_sub-result overflow_mul-result overflow_sub-result-2 returns)

@@ -10,48 +10,48 @@ use Rattle.line.proofs.settings.settings_of.Statement.{statement}
 use Rattle.line.proofs.settings.settings_of.Tie as tie
 
 -- N is 1 to 1,344
-least : (c : tie.After-bits-of) → 1 ≤ c.bits_of.result
-least c = rw c.bits_of.ensures (bits-least _ _ c.before.requires.least)
+least : (c : tie.After-bits_of-bits) → 1 ≤ c.bits_of-bits.result
+least c = rw c.bits_of-bits.ensures (bits-least _ _ c.before.requires.least)
 
-most : (c : tie.After-bits-of) → c.bits_of.result ≤ 1344
-most c = rw c.bits_of.ensures (bits_most _ _ c.before.requires.most)
+most : (c : tie.After-bits_of-bits) → c.bits_of-bits.result ≤ 1344
+most c = rw c.bits_of-bits.ensures (bits_most _ _ c.before.requires.most)
 
-bits-of-requires : tie.Need-bits-of-requires
-bits-of-requires c κs = c.requires.most
+bits_of-bits-requires : tie.Need-bits_of-bits-requires
+bits_of-bits-requires c κs = c.requires.most
 
-high-of-requires : tie.Need-high-of-requires
-high-of-requires c κs = (most c, omega arith, c.before.requires.fullest)
+high_of-high-requires : tie.Need-high_of-high-requires
+high_of-high-requires c κs = (most c, omega arith, c.before.requires.fullest)
 
-step-of-requires : tie.Need-step-of-requires
-step-of-requires c κs = (least c.before, omega arith, c.high-of.ensures)
+step_of-step-requires : tie.Need-step_of-step-requires
+step_of-step-requires c κs = (least c.before, omega arith, c.high_of-high.ensures)
 
-uncoded-of-requires : tie.Need-uncoded-of-requires
-uncoded-of-requires c κs = search rules
+uncoded_of-uncoded-requires : tie.Need-uncoded_of-uncoded-requires
+uncoded_of-uncoded-requires c κs = search rules
 
-shell-of-requires : tie.Need-shell-of-requires
-shell-of-requires c κs = search rules
+shell_of-shell-requires : tie.Need-shell_of-shell-requires
+shell_of-shell-requires c κs = search rules
 
-shaping-of-requires : tie.Need-shaping-of-requires
-shaping-of-requires c κs = rw c.shell-of.ensures (shell_below _)
+shaping_of-kind-requires : tie.Need-shaping_of-kind-requires
+shaping_of-kind-requires c κs = rw c.shell_of-shell.ensures (shell_below _)
 
-rings-of-shaping-requires : tie.Need-rings-of-shaping-requires
-rings-of-shaping-requires c κs = search rules
+rings_of_shaping-requires : tie.Need-rings_of_shaping-requires
+rings_of_shaping-requires c κs = search rules
 
 -- P, N and b worked out, q is at most 9
-uncoded : (c : tie.After-uncoded-of) → c.uncoded-of.result ≤ 9
+uncoded : (c : tie.After-uncoded_of-uncoded) → c.uncoded_of-uncoded.result ≤ 9
 uncoded c =
     let k = c.before.before in
-    rw (c.uncoded-of.ensures, k.high-of.ensures)
+    rw (c.uncoded_of-uncoded.ensures, k.high_of-high.ensures)
     (uncoded-most _ (high-most _ _ (most k.before) k.before.before.requires.fewest))
 
 -- and M at most 18
-rings : (c : tie.After-rings-of-shaping) → c.rings-of-shaping.result ≤ 18
+rings : (c : tie.After-rings_of_shaping) → c.rings_of_shaping.result ≤ 18
 rings c =
-    rw (c.rings-of-shaping.ensures, c.before.shaping-of.ensures)
-    (rings-permitted _ _ (shaping-of-requires c.before.before _)).most
+    rw (c.rings_of_shaping.ensures, c.before.shaping_of-kind.ensures)
+    (rings-permitted _ _ (shaping_of-kind-requires c.before.before _)).most
 
-points-of-requires : tie.Need-points-of-requires
-points-of-requires c κs = (rings c, uncoded c.before.before.before)
+points_of-points-requires : tie.Need-points_of-points-requires
+points_of-points-requires c κs = (rings c, uncoded c.before.before.before)
 
 returns : tie.Need-returns
 unfolding settings_of
@@ -61,12 +61,12 @@ pub settings_of_spec : {M : Type 1} → statement M
 settings_of_spec =
     tie.close
     (tie.spec
-    bits-of-requires
-    high-of-requires
-    step-of-requires
-    uncoded-of-requires
-    shell-of-requires
-    shaping-of-requires
-    rings-of-shaping-requires
-    points-of-requires
+    bits_of-bits-requires
+    high_of-high-requires
+    step_of-step-requires
+    uncoded_of-uncoded-requires
+    shell_of-shell-requires
+    shaping_of-kind-requires
+    rings_of_shaping-requires
+    points_of-points-requires
     returns)

@@ -15,62 +15,62 @@ use Rattle.line.proofs.settings.work_out.Statement.{statement}
 use Rattle.line.proofs.settings.work_out.Tie as tie
 
 -- no refusal holds of what is asked
-abbrev given : tie.Else1 → Asked
+abbrev given : tie.Else-number-gt0 → Asked
 given c = c.before.before.args.asked
 
-none : (c : tie.Else1) → settings_refusal (given c) ≡ 0
-none c = sym c.before.first-refusal.ensures ∙ omega arith
+none : (c : tie.Else-number-gt0) → settings_refusal (given c) ≡ 0
+none c = sym c.before.first_refusal-number.ensures ∙ omega arith
 
 -- s names the rate, and n is in its range
-abbrev passed : tie.After-rate → tie.Else1
-passed c = c.before.before.before
+abbrev passed : tie.In-Known → tie.Else-number-gt0
+passed c = c.before.before
 
-known : (c : tie.After-rate) → symbol_rate (given (passed c)).s ≡ Known c.rate.given.0.0
-known c = sym c.before.before.of.ensures ∙ c.rate.given.1
+known : (c : tie.In-Known) → symbol_rate (given (passed c)).s ≡ Known c.in-Known.rate
+known c = sym c.before.of.ensures ∙ c.in-Known.is
 
-within : (c : tie.After-rate) → Within (Known c.rate.given.0.0) (given (passed c)).n
+within : (c : tie.In-Known) → Within (Known c.in-Known.rate) (given (passed c)).n
 within c = subst (λ (r : Rate). Within r (given (passed c)).n) (known c) (unrefused_right _ (none (passed c))).range
 
-first-refusal-requires : tie.Need-first-refusal-requires
-first-refusal-requires c κs = search rules
+first_refusal-number-requires : tie.Need-first_refusal-number-requires
+first_refusal-number-requires c κs = search rules
 
-returns : tie.Need-returns
+returns-then-number-gt0 : tie.Need-returns-then-number-gt0
 unfolding worked_of
-returns c = rw (← c.before.first-refusal.ensures, ne_eqb c.before.first-refusal.result 0 (λ e. omega arith))
+returns-then-number-gt0 c = rw (← c.before.first_refusal-number.ensures, ne_eqb c.before.first_refusal-number.result 0 (λ e. omega arith))
 
 of-requires : tie.Need-of-requires
 of-requires c κs = search rules
 
-enum-known-rate : tie.Need-enum-known-rate
-enum-known-rate c = search rules
+enum_known-rate : tie.Need-enum_known-rate
+enum_known-rate c = search rules
 
-enum_told : tie.Need-enum-told
-enum_told c = search rules
+enum_told-1 : tie.Need-enum_told-1
+enum_told-1 c = search rules
 
-returns-2 : tie.Need-returns-2
+returns-in_default : tie.Need-returns-in_default
 unfolding accepted_of
-returns-2 c =
-    rw (unrefused_is _ (none c.before.before.before), ← c.before.before.of.ensures, c.enum_told.given.1)
+returns-in_default c =
+    rw (unrefused_is _ (none c.before.before), ← c.before.of.ensures, c.in_default.is)
 
-settings-of-requires : tie.Need-settings-of-requires
-settings-of-requires c κs =
-    let k = c.before in
+settings_of-requires : tie.Need-settings_of-requires
+settings_of-requires c κs =
+    let k = c in
     in-range _ _ _ (known k) (within k).0 (within k).1
 
-returns-3 : tie.Need-returns-3
-returns-3 c =
-    let k = c.before.before in
-    sym (unrefused_is _ (none (passed k)) ∙ known-accepted _ _ (known k) ∙ ap Accepted (sym c.settings-of.ensures))
+returns : tie.Need-returns
+returns c =
+    let k = c.before in
+    sym (unrefused_is _ (none (passed k)) ∙ known-accepted _ _ (known k) ∙ ap Accepted (sym c.settings_of.ensures))
 
 pub work_out_spec : {M : Type 1} → statement M
 work_out_spec =
     tie.close
     (tie.spec
-    first-refusal-requires
-    returns
+    first_refusal-number-requires
+    returns-then-number-gt0
     of-requires
-    enum-known-rate
-    enum_told
-    returns-2
-    settings-of-requires
-    returns-3)
+    enum_known-rate
+    enum_told-1
+    returns-in_default
+    settings_of-requires
+    returns)

@@ -6,15 +6,15 @@ use Rattle.line.specs.Numbers.{minimum_of}
 use Rattle.line.proofs.shells.minimum_rings.Statement.{statement}
 use Rattle.line.proofs.shells.minimum_rings.Tie as tie
 
-mul-result : tie.Need-overflow-mul-result
-mul-result c = search rules
+offset_bounds-k : tie.Need-offset_bounds-k
+offset_bounds-k c = search rules
 
-array-read-result : tie.Need-array-read-result
-array-read-result c = search rules
+bounds-k : tie.Need-bounds-k
+bounds-k c = search rules
 
 returns : tie.Need-returns
 unfolding values smallest minimum_of
 returns c = values-below minimum_of 32 c.args.k c.requires
 
 pub minimum_rings_spec : {M : Type 1} → statement M
-minimum_rings_spec = tie.close (tie.spec mul-result array-read-result returns)
+minimum_rings_spec = tie.close (tie.spec offset_bounds-k bounds-k returns)

@@ -19,17 +19,17 @@ literal : of_bits binary64 4632233691727265792 ≡ of_int binary64 (pos 50)
 unfolding of_bits of_fields of_int round size span climb units odd
 literal = refl
 
+returns-then-count-eqminus512 : tie.Need-returns-then-count-eqminus512
+returns-then-count-eqminus512 c = sym (ap reading_of (sym (same c.before) ∙ ap (to_z w32) c.if-count-eqminus512.true))
+
+int_to_float-steps : tie.Need-int_to_float-steps
+int_to_float-steps c = search rules
+
 returns : tie.Need-returns
-returns c = sym (ap reading_of (sym (same c.before) ∙ ap (to_z w32) c.if1.true))
-
-int-to-float-steps : tie.Need-int-to-float-steps
-int-to-float-steps c = search rules
-
-returns-2 : tie.Need-returns-2
 unfolding hertz_of
-returns-2 c =
+returns c =
     let k = c.before.before in
-    rw (same k, literal) (sym (hertz_unless k.args.count (λ e. c.before.if1.false (ap (of_z w32) e))))
+    rw (same k, literal) (sym (hertz_unless k.args.count (λ e. c.before.if-count-eqminus512.false (ap (of_z w32) e))))
 
 pub reading_of_spec : {M : Type 1} → statement M
-reading_of_spec = tie.close (tie.spec returns int-to-float-steps returns-2)
+reading_of_spec = tie.close (tie.spec returns-then-count-eqminus512 int_to_float-steps returns)

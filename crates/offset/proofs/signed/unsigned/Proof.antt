@@ -17,81 +17,81 @@ same : (c : tie.Start) → to_z w32 (of_z w32 c.args.count) ≡ c.args.count
 same c = to_z-of_z w32 c.args.count c.ranges.count
 
 -- below 0
-less : (c : tie.Then1) → lt_z c.before.args.count (pos 0) ≡ true
-less c = rw (same c.before) at c.if1.true
+less : (c : tie.Then-count-lt0) → lt_z c.before.args.count (pos 0) ≡ true
+less c = rw (same c.before) at c.if-count-lt0.true
 
-number : (c : tie.Then1) → negsuc 0 -ℤ to_z w32 (of_z w32 c.before.args.count) ≡ pos (mag c.before.args.count)
+number : (c : tie.Then-count-lt0) → negsuc 0 -ℤ to_z w32 (of_z w32 c.before.args.count) ≡ pos (mag c.before.args.count)
 number c = rw (same c.before) (turned c.before.args.count (less c))
 
-sub-n : tie.Need-overflow-sub-n
-sub-n c = rw (number c) (record { sfits = c.before.ranges.count.sfits })
+overflow_sub-n : tie.Need-overflow_sub-n
+overflow_sub-n c = rw (number c) (record { sfits = c.before.ranges.count.sfits })
 
 number_read :
-    (c : tie.Then1)
+    (c : tie.Then-count-lt0)
     → to_z w32 (of_z w32 (negsuc 0 -ℤ to_z w32 (of_z w32 c.before.args.count))) ≡ pos (mag c.before.args.count)
-number_read c = to_z-of_z w32 _ (sub-n c) ∙ number c
+number_read c = to_z-of_z w32 _ (overflow_sub-n c) ∙ number c
 
-cast-n : tie.Need-overflow-cast-n
-cast-n c = rw (number_read c) (tt, omega (arith, c.before.ranges.count.sfits))
+overflow_cast-n : tie.Need-overflow_cast-n
+overflow_cast-n c = rw (number_read c) (tt, omega (arith, c.before.ranges.count.sfits))
 
-add-result : tie.Need-overflow-add-result
-add-result c = search rules
+overflow_add-result : tie.Need-overflow_add-result
+overflow_add-result c = search rules
 
-sub-result : tie.Need-overflow-sub-result
-sub-result c = search rules
+overflow_sub-result : tie.Need-overflow_sub-result
+overflow_sub-result c = search rules
 
-sub-result-2 : tie.Need-overflow-sub-result-2
-sub-result-2 c = search rules
+overflow_sub-result-then-n-half : tie.Need-overflow_sub-result-then-n-half
+overflow_sub-result-then-n-half c = search rules
 
-returns : tie.Need-returns
-returns c =
-    let small = rw (number_read c.before) at c.if2.true in
+returns-then-n-half : tie.Need-returns-then-n-half
+returns-then-n-half c =
+    let small = rw (number_read c.before) at c.if-n-half.true in
     rw (number_read c.before, unsigned-below _ _ (less c.before), lt-ltb _ _ small) (omega arith)
 
-add-result-2 : tie.Need-overflow-add-result-2
-add-result-2 c = search rules
+overflow_add-result-then-count-lt0 : tie.Need-overflow_add-result-then-count-lt0
+overflow_add-result-then-count-lt0 c = search rules
 
-returns-2 : tie.Need-returns-2
-returns-2 c =
-    let large = rw (number_read c.before) at c.if2.false in
+returns-then-count-lt0 : tie.Need-returns-then-count-lt0
+returns-then-count-lt0 c =
+    let large = rw (number_read c.before) at c.if-n-half.false in
     rw (unsigned-below _ _ (less c.before), le-ltb _ _ large)
 
 -- from 0 on
-more : (c : tie.Else1) → lt_z c.before.args.count (pos 0) ≡ false
-more c = rw (same c.before) at c.if1.false
+more : (c : tie.Else-count-lt0) → lt_z c.before.args.count (pos 0) ≡ false
+more c = rw (same c.before) at c.if-count-lt0.false
 
-plain : (c : tie.Else1) → to_z w32 (of_z w32 c.before.args.count) ≡ pos (mag c.before.args.count)
+plain : (c : tie.Else-count-lt0) → to_z w32 (of_z w32 c.before.args.count) ≡ pos (mag c.before.args.count)
 plain c = same c.before ∙ unturned c.before.args.count (more c)
 
-cast-n-2 : tie.Need-overflow-cast-n-2
-cast-n-2 c = rw (plain c) (tt, omega (arith, c.before.ranges.count.sfits))
+overflow_cast-n-2 : tie.Need-overflow_cast-n-2
+overflow_cast-n-2 c = rw (plain c) (tt, omega (arith, c.before.ranges.count.sfits))
 
-returns-3 : tie.Need-returns-3
-returns-3 c =
-    let small = rw (plain c.before) at c.if3.true in
+returns-then-n-half-2 : tie.Need-returns-then-n-half-2
+returns-then-n-half-2 c =
+    let small = rw (plain c.before) at c.if-n-half-2.true in
     rw (plain c.before, unsigned-above _ _ (more c.before), lt-ltb _ _ small)
 
-add-result-3 : tie.Need-overflow-add-result-3
-add-result-3 c = search rules
+overflow_add-result-2 : tie.Need-overflow_add-result-2
+overflow_add-result-2 c = search rules
 
-returns-4 : tie.Need-returns-4
-returns-4 c =
-    let large = rw (plain c.before) at c.if3.false in
+returns : tie.Need-returns
+returns c =
+    let large = rw (plain c.before) at c.if-n-half-2.false in
     rw (unsigned-above _ _ (more c.before), le-ltb _ _ large)
 
 pub unsigned_spec : {M : Type 1} → statement M
 unsigned_spec =
     tie.close
     (tie.spec
-    sub-n
-    cast-n
-    add-result
-    sub-result
-    sub-result-2
-    returns
-    add-result-2
-    returns-2
-    cast-n-2
-    returns-3
-    add-result-3
-    returns-4)
+    overflow_sub-n
+    overflow_cast-n
+    overflow_add-result
+    overflow_sub-result
+    overflow_sub-result-then-n-half
+    returns-then-n-half
+    overflow_add-result-then-count-lt0
+    returns-then-count-lt0
+    overflow_cast-n-2
+    returns-then-n-half-2
+    overflow_add-result-2
+    returns)

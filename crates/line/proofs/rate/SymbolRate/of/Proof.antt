@@ -25,32 +25,32 @@ r3200-requires c κs = search rules
 r3429-requires : tie.Need-r3429-requires
 r3429-requires c κs = search rules
 
-returns : tie.Need-returns
+returns-in-0 : tie.Need-returns-in-0
 unfolding symbol_rate row_of
-returns c = rw (c.r2400.ensures, c.before.match.keys1)
+returns-in-0 c = rw (c.r2400.ensures, c.before.in-0.is)
 
-returns-2 : tie.Need-returns-2
+returns-in-1 : tie.Need-returns-in-1
 unfolding symbol_rate row_of
-returns-2 c = rw (c.r2743.ensures, c.before.match.keys2)
+returns-in-1 c = rw (c.r2743.ensures, c.before.in-1.is)
 
-returns-3 : tie.Need-returns-3
+returns-in-2 : tie.Need-returns-in-2
 unfolding symbol_rate row_of
-returns-3 c = rw (c.r2800.ensures, c.before.match.keys3)
+returns-in-2 c = rw (c.r2800.ensures, c.before.in-2.is)
 
-returns-4 : tie.Need-returns-4
+returns-in-3 : tie.Need-returns-in-3
 unfolding symbol_rate row_of
-returns-4 c = rw (c.r3000.ensures, c.before.match.keys4)
+returns-in-3 c = rw (c.r3000.ensures, c.before.in-3.is)
 
-returns-5 : tie.Need-returns-5
+returns-in-4 : tie.Need-returns-in-4
 unfolding symbol_rate row_of
-returns-5 c = rw (c.r3200.ensures, c.before.match.keys5)
+returns-in-4 c = rw (c.r3200.ensures, c.before.in-4.is)
 
-returns-6 : tie.Need-returns-6
+returns-in-5 : tie.Need-returns-in-5
 unfolding symbol_rate row_of
-returns-6 c = rw (c.r3429.ensures, c.before.match.keys6)
+returns-in-5 c = rw (c.r3429.ensures, c.before.in-5.is)
 
-returns-7 : tie.Need-returns-7
-returns-7 c = sym (unknown-above c.before.args.s (omega arith))
+returns-in_default : tie.Need-returns-in_default
+returns-in_default c = sym (unknown-above c.before.args.s (omega arith))
 
 pub of_spec : {M : Type 1} → statement M
 of_spec =
@@ -62,10 +62,10 @@ of_spec =
     r3000-requires
     r3200-requires
     r3429-requires
-    returns
-    returns-2
-    returns-3
-    returns-4
-    returns-5
-    returns-6
-    returns-7)
+    returns-in-0
+    returns-in-1
+    returns-in-2
+    returns-in-3
+    returns-in-4
+    returns-in-5
+    returns-in_default)
