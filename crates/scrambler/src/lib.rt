@@ -4,6 +4,7 @@
 // calling end, 5 and 23 places back at the answering end. The inverse adds the received bits in the same places.
 // How does it work? The last 23 output bits are one number, the register; a step takes two of its bits and pushes one in.
 #![tactic(auto)]
+
 ghost use Rattle.std.specs.Prelude.{◌≡◌, ◌≤◌, ◌<◌, ◌^◌};
 ghost use Rattle.scrambler.specs.Parts.{Scrambled, Descrambled};
 ghost use Rattle.scrambler.specs.Requires.{Part};

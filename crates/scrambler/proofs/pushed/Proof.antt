@@ -6,15 +6,15 @@ use Rattle.scrambler.specs.Scrambler.{push}
 use Rattle.scrambler.proofs.pushed.Statement.{statement}
 use Rattle.scrambler.proofs.pushed.Tie as tie
 
-mul-result : tie.Need-overflow-mul-result
-mul-result c = search rules
+overflow_mul-result : tie.Need-overflow_mul-result
+overflow_mul-result c = search rules
 
-add-result : tie.Need-overflow-add-result
-add-result c = search rules
+overflow_add-result : tie.Need-overflow_add-result
+overflow_add-result c = search rules
 
 returns : tie.Need-returns
 unfolding push
 returns c = refl
 
 pub pushed_spec : {M : Type 1} → statement M
-pushed_spec = tie.close (tie.spec mul-result add-result returns)
+pushed_spec = tie.close (tie.spec overflow_mul-result overflow_add-result returns)

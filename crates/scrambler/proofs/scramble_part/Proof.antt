@@ -9,77 +9,77 @@ use Rattle.scrambler.proofs.Slices.{Going, Turn, going_none, turn-of, going_more
 use Rattle.scrambler.proofs.scramble_part.Statement.{statement}
 use Rattle.scrambler.proofs.scramble_part.Tie as tie
 
-abbrev invariant-loop : tie.invariant-loop
-invariant-loop role register bits out₀ held₀ i₀ out held i = Going (scrambled_bit role) role register bits out₀ out held i
+abbrev invariant-loop-i : tie.invariant-loop-i
+invariant-loop-i role register bits out₀ held₀ i₀ out held i = Going (scrambled_bit role) role register bits out₀ out held i
 
-abbrev decreases-loop : tie.decreases-loop
-decreases-loop role register bits out₀ held₀ i₀ out held i = length bits - i
+abbrev decreases-loop-i : tie.decreases-loop-i
+decreases-loop-i role register bits out₀ held₀ i₀ out held i = length bits - i
 
-loop-holds : tie.Need-loop-init invariant-loop decreases-loop
-loop-holds c = going_none _ _ _ _ _ c.before.before.requires.small
+loop-i-init : tie.Need-loop-i-init invariant-loop-i decreases-loop-i
+loop-i-init c = going_none _ _ _ _ _ c.before.before.requires.small
 
 -- what is known in a turn, and of the bit that it stores
 known :
-    (k : tie.In-loop invariant-loop decreases-loop)
+    (k : tie.In-loop-i invariant-loop-i decreases-loop-i)
     → let l = k.before in
-    Turn l.before.before.before.args.bits.now l.loop.out l.loop.held l.loop.i
-known k = let l = k.before in turn-of _ _ _ _ _ _ _ _ l.loop.invariant l.before.before.before.requires
+    Turn l.before.before.before.args.bits.now l.loop-i.out l.loop-i.held l.loop-i.i
+known k = let l = k.before in turn-of _ _ _ _ _ _ _ _ l.loop-i.invariant l.before.before.before.requires
 
-stored : (k : tie.After-through invariant-loop decreases-loop) → k.through.result ≤ 1
-stored k = subst (λ (x : ℕ). x ≤ 1) (sym k.through.ensures) (bit-out _ _ _)
+stored : (k : tie.After-through-bit invariant-loop-i decreases-loop-i) → k.through-bit.result ≤ 1
+stored k = subst (λ (x : ℕ). x ≤ 1) (sym k.through-bit.ensures) (bit-out _ _ _)
 
-shared-slice-read-through : tie.Need-shared-slice-read-through invariant-loop decreases-loop
-shared-slice-read-through c = omega arith
+bounds-bits-i : tie.Need-bounds-bits-i invariant-loop-i decreases-loop-i
+bounds-bits-i c = omega arith
 
-cast-through : tie.Need-overflow-cast-through invariant-loop decreases-loop
-cast-through c = omega (arith, (known c.before).bit)
+overflow_cast-bits : tie.Need-overflow_cast-bits invariant-loop-i decreases-loop-i
+overflow_cast-bits c = omega (arith, (known c.before).bit)
 
-through-requires : tie.Need-through-requires invariant-loop decreases-loop
-through-requires c κs = (known c.before).bit
+through-bit-requires : tie.Need-through-bit-requires invariant-loop-i decreases-loop-i
+through-bit-requires c κs = (known c.before).bit
 
-cast-out : tie.Need-overflow-cast-out invariant-loop decreases-loop
-cast-out c = omega (arith, stored c)
+overflow_cast-out : tie.Need-overflow_cast-out invariant-loop-i decreases-loop-i
+overflow_cast-out c = omega (arith, stored c)
 
-slice-write-out : tie.Need-slice-write-out invariant-loop decreases-loop
-slice-write-out c = omega (arith, (known c.before.before).room)
+bounds-out-i : tie.Need-bounds-out-i invariant-loop-i decreases-loop-i
+bounds-out-i c = omega (arith, (known c.before.before).room)
 
-pushed-requires : tie.Need-pushed-requires invariant-loop decreases-loop
-pushed-requires c κs = ((known c.before.before).small, stored c)
+pushed-held-requires : tie.Need-pushed-held-requires invariant-loop-i decreases-loop-i
+pushed-held-requires c κs = ((known c.before.before).small, stored c)
 
-add-i : tie.Need-overflow-add-i invariant-loop decreases-loop
-add-i c = omega arith
+overflow_add-i : tie.Need-overflow_add-i invariant-loop-i decreases-loop-i
+overflow_add-i c = omega arith
 
-loop-less : tie.Need-loop-smaller invariant-loop decreases-loop
-loop-less c = omega arith
+loop-i-smaller : tie.Need-loop-i-smaller invariant-loop-i decreases-loop-i
+loop-i-smaller c = omega arith
 
-loop-again : tie.Need-loop-preserved invariant-loop decreases-loop
-loop-again c =
+loop-i-preserved : tie.Need-loop-i-preserved invariant-loop-i decreases-loop-i
+loop-i-preserved c =
     let through = c.before in
     let turn = through.before.before in
-    going_more _ _ _ _ _ _ _ _ turn.before.loop.invariant turn.loop-test.true _ _ _ (known turn) through.through.ensures
-    through.through.ensures c.pushed.ensures
+    going_more _ _ _ _ _ _ _ _ turn.before.loop-i.invariant turn.loop-i-test.true _ _ _ (known turn) through.through-bit.ensures
+    through.through-bit.ensures c.pushed-held.ensures
 
-same_length : tie.Need-same-length invariant-loop decreases-loop
-same_length c = c.before.loop.invariant.size
+shape_of-out : tie.Need-shape_of-out invariant-loop-i decreases-loop-i
+shape_of-out c = c.before.loop-i.invariant.size
 
-returns : tie.Need-returns invariant-loop decreases-loop
-returns c = scrambled _ _ _ _ _ _ _ c.before.loop.invariant (omega arith)
+returns : tie.Need-returns invariant-loop-i decreases-loop-i
+returns c = scrambled _ _ _ _ _ _ _ c.before.loop-i.invariant (omega arith)
 
 pub scramble_part_spec : {M : Type 1} → statement M
 scramble_part_spec =
     tie.close
     (tie.spec
-    invariant-loop
-    decreases-loop
-    loop-holds
-    shared-slice-read-through
-    cast-through
-    through-requires
-    cast-out
-    slice-write-out
-    pushed-requires
-    add-i
-    loop-less
-    loop-again
-    same_length
+    invariant-loop-i
+    decreases-loop-i
+    loop-i-init
+    bounds-bits-i
+    overflow_cast-bits
+    through-bit-requires
+    overflow_cast-out
+    bounds-out-i
+    pushed-held-requires
+    overflow_add-i
+    loop-i-smaller
+    loop-i-preserved
+    shape_of-out
     returns)

@@ -69,52 +69,52 @@ module _ (bits : List ℕ) (from to register i : ℕ) (f : Fed bits from to regi
       let small : register < 2 ^ 16 = f.small in
       sym (mod-eq_of_lt small) ∙ (sym (high_value-high_digits 16 register) ∙ ap high_value whole)
 
-abbrev invariant-loop : tie.invariant-loop
-invariant-loop bits from to register₀ i₀ register i = Fed bits from to register i
+abbrev invariant-loop-i : tie.invariant-loop-i
+invariant-loop-i bits from to register₀ i₀ register i = Fed bits from to register i
 
-abbrev decreases-loop : tie.decreases-loop
-decreases-loop bits from to register₀ i₀ register i = to - i
+abbrev decreases-loop-i : tie.decreases-loop-i
+decreases-loop-i bits from to register₀ i₀ register i = to - i
 
-loop-holds : tie.Need-loop-init invariant-loop decreases-loop
-loop-holds c = let a = c.before.args in first a.bits.now a.from a.to c.before.requires.0 c.before.requires.2
+loop-i-init : tie.Need-loop-i-init invariant-loop-i decreases-loop-i
+loop-i-init c = let a = c.before.args in first a.bits.now a.from a.to c.before.requires.0 c.before.requires.2
 
-shared-slice-read-stepped : tie.Need-shared-slice-read-stepped invariant-loop decreases-loop
-shared-slice-read-stepped c = omega arith
+bounds-bits-i : tie.Need-bounds-bits-i invariant-loop-i decreases-loop-i
+bounds-bits-i c = omega arith
 
-bit-small : (k : tie.In-loop invariant-loop decreases-loop) → get_or k.before.before.before.args.bits.now k.before.loop.i 0 ≤ 1
-bit-small k = (next-bits _ _ _ _ _ k.before.loop.invariant k.loop-test.true k.before.before.before.requires.1).0
+bit-small : (k : tie.In-loop-i invariant-loop-i decreases-loop-i) → get_or k.before.before.before.args.bits.now k.before.loop-i.i 0 ≤ 1
+bit-small k = (next-bits _ _ _ _ _ k.before.loop-i.invariant k.loop-i-test.true k.before.before.before.requires.1).0
 
-cast-stepped : tie.Need-overflow-cast-stepped invariant-loop decreases-loop
-cast-stepped c = omega (arith, bit-small c.before)
+overflow_cast-bits : tie.Need-overflow_cast-bits invariant-loop-i decreases-loop-i
+overflow_cast-bits c = omega (arith, bit-small c.before)
 
-stepped-requires : tie.Need-stepped-requires invariant-loop decreases-loop
-stepped-requires c κs = (c.before.before.loop.invariant.small, bit-small c.before)
+stepped-register-requires : tie.Need-stepped-register-requires invariant-loop-i decreases-loop-i
+stepped-register-requires c κs = (c.before.before.loop-i.invariant.small, bit-small c.before)
 
-add-i : tie.Need-overflow-add-i invariant-loop decreases-loop
-add-i c = omega arith
+overflow_add-i : tie.Need-overflow_add-i invariant-loop-i decreases-loop-i
+overflow_add-i c = omega arith
 
-loop-less : tie.Need-loop-smaller invariant-loop decreases-loop
-loop-less c = omega arith
+loop-i-smaller : tie.Need-loop-i-smaller invariant-loop-i decreases-loop-i
+loop-i-smaller c = omega arith
 
-loop-again : tie.Need-loop-preserved invariant-loop decreases-loop
-loop-again c =
+loop-i-preserved : tie.Need-loop-i-preserved invariant-loop-i decreases-loop-i
+loop-i-preserved c =
     let k = c.before.before in
-    more _ _ _ _ _ k.before.loop.invariant k.loop-test.true k.before.before.before.requires.1 _ c.stepped.ensures
+    more _ _ _ _ _ k.before.loop-i.invariant k.loop-i-test.true k.before.before.before.requires.1 _ c.stepped-register.ensures
 
-returns : tie.Need-returns invariant-loop decreases-loop
-returns c = last _ _ _ _ _ c.before.loop.invariant c.loop-test.false
+returns : tie.Need-returns invariant-loop-i decreases-loop-i
+returns c = last _ _ _ _ _ c.before.loop-i.invariant c.loop-i-test.false
 
 pub crc_of_spec : {M : Type 1} → statement M
 crc_of_spec =
     tie.close
     (tie.spec
-    invariant-loop
-    decreases-loop
-    loop-holds
-    shared-slice-read-stepped
-    cast-stepped
-    stepped-requires
-    add-i
-    loop-less
-    loop-again
+    invariant-loop-i
+    decreases-loop-i
+    loop-i-init
+    bounds-bits-i
+    overflow_cast-bits
+    stepped-register-requires
+    overflow_add-i
+    loop-i-smaller
+    loop-i-preserved
     returns)

@@ -30,44 +30,44 @@ one_more bits at crc left i h e room =
     rw (half left i h e, ← add_assoc at i 1, high_digits-next 16 i crc h)
     (put_first bits (at + i) (crc / 2 ^ (16 - (i + 1)) % 2) (high_digits (16 - (i + 1)) crc) (omega arith))
 
-abbrev invariant-loop : tie.invariant-loop
-invariant-loop crc bits₀ at left₀ i₀ bits left i =
+abbrev invariant-loop-i : tie.invariant-loop-i
+invariant-loop-i crc bits₀ at left₀ i₀ bits left i =
     (i ≤ 16)
     × (at + 16 ≤ length bits₀)
     × (length bits ≡ length bits₀)
     × (left ≡ 2 ^ (16 - i))
     × (filled bits at crc i ≡ put bits₀ at (high_digits 16 crc))
 
-abbrev decreases-loop : tie.decreases-loop
-decreases-loop crc bits₀ at left₀ i₀ bits left i = 16 - i
+abbrev decreases-loop-i : tie.decreases-loop-i
+decreases-loop-i crc bits₀ at left₀ i₀ bits left i = 16 - i
 
-loop-holds : tie.Need-loop-init invariant-loop decreases-loop
-loop-holds c = (omega arith, c.requires, refl, refl, rw add-zero)
+loop-i-init : tie.Need-loop-i-init invariant-loop-i decreases-loop-i
+loop-i-init c = (omega arith, c.requires, refl, refl, rw add-zero)
 
-div-bits : tie.Need-nonzero-div-bits invariant-loop decreases-loop
-div-bits c =
-    let l = c.before.loop in
+nonzero_div-bits : tie.Need-nonzero_div-bits invariant-loop-i decreases-loop-i
+nonzero_div-bits c =
+    let l = c.before.loop-i in
     let h = half l.left l.i (omega arith) l.invariant.3 in
     omega (arith, pow_pos (16 - (l.i + 1)))
 
-cast-bits : tie.Need-overflow-cast-bits invariant-loop decreases-loop
-cast-bits c = omega arith
+overflow_cast-bits : tie.Need-overflow_cast-bits invariant-loop-i decreases-loop-i
+overflow_cast-bits c = omega arith
 
-add-bits : tie.Need-overflow-add-bits invariant-loop decreases-loop
-add-bits c = omega arith
+overflow_add-bits : tie.Need-overflow_add-bits invariant-loop-i decreases-loop-i
+overflow_add-bits c = omega arith
 
-slice-write-bits : tie.Need-slice-write-bits invariant-loop decreases-loop
-slice-write-bits c = omega arith
+bounds-bits-at : tie.Need-bounds-bits-at invariant-loop-i decreases-loop-i
+bounds-bits-at c = omega arith
 
-add-i : tie.Need-overflow-add-i invariant-loop decreases-loop
-add-i c = omega arith
+overflow_add-i : tie.Need-overflow_add-i invariant-loop-i decreases-loop-i
+overflow_add-i c = omega arith
 
-loop-less : tie.Need-loop-smaller invariant-loop decreases-loop
-loop-less c = omega arith
+loop-i-smaller : tie.Need-loop-i-smaller invariant-loop-i decreases-loop-i
+loop-i-smaller c = omega arith
 
-loop-again : tie.Need-loop-preserved invariant-loop decreases-loop
-loop-again c =
-    let l = c.before.loop in
+loop-i-preserved : tie.Need-loop-i-preserved invariant-loop-i decreases-loop-i
+loop-i-preserved c =
+    let l = c.before.loop-i in
     let a = c.before.before.args in (
       omega arith,
       l.invariant.1,
@@ -76,28 +76,28 @@ loop-again c =
       one_more l.bits a.at a.crc l.left l.i (omega arith) l.invariant.3 (omega arith) ∙ l.invariant.4,
     )
 
-same_length : tie.Need-same-length invariant-loop decreases-loop
-same_length c = omega arith
+shape_of-bits : tie.Need-shape_of-bits invariant-loop-i decreases-loop-i
+shape_of-bits c = omega arith
 
-returns : tie.Need-returns invariant-loop decreases-loop
+returns : tie.Need-returns invariant-loop-i decreases-loop-i
 returns c =
-    let l = c.before.loop in
+    let l = c.before.loop-i in
     let a = c.before.before.args in
-    sym (put-nothing l.bits (a.at + l.i)) ∙ (rw (high_digits_none 16 l.i a.crc c.loop-test.false) at l.invariant.4)
+    sym (put-nothing l.bits (a.at + l.i)) ∙ (rw (high_digits_none 16 l.i a.crc c.loop-i-test.false) at l.invariant.4)
 
 pub put_crc_spec : {M : Type 1} → statement M
 put_crc_spec =
     tie.close
     (tie.spec
-    invariant-loop
-    decreases-loop
-    loop-holds
-    div-bits
-    cast-bits
-    add-bits
-    slice-write-bits
-    add-i
-    loop-less
-    loop-again
-    same_length
+    invariant-loop-i
+    decreases-loop-i
+    loop-i-init
+    nonzero_div-bits
+    overflow_cast-bits
+    overflow_add-bits
+    bounds-bits-at
+    overflow_add-i
+    loop-i-smaller
+    loop-i-preserved
+    shape_of-bits
     returns)

@@ -5,17 +5,17 @@ use Rattle.fields.proofs.Weights.{high_value-step}
 use Rattle.fields.proofs.check.stepped.Statement.{statement}
 use Rattle.fields.proofs.check.stepped.Tie as tie
 
-mul-result : tie.Need-overflow-mul-result
-mul-result c = search rules
+overflow_mul-result : tie.Need-overflow_mul-result
+overflow_mul-result c = search rules
 
-add-result : tie.Need-overflow-add-result
-add-result c = search rules
+overflow_add-result : tie.Need-overflow_add-result
+overflow_add-result c = search rules
 
-mul-result-2 : tie.Need-overflow-mul-result-2
-mul-result-2 c = search rules
+overflow_mul-result-2 : tie.Need-overflow_mul-result-2
+overflow_mul-result-2 c = search rules
 
 returns : tie.Need-returns
 returns c = sym (high_value-step c.args.register c.args.bit)
 
 pub stepped_spec : {M : Type 1} → statement M
-stepped_spec = tie.close (tie.spec mul-result add-result mul-result-2 returns)
+stepped_spec = tie.close (tie.spec overflow_mul-result overflow_add-result overflow_mul-result-2 returns)

@@ -10,81 +10,81 @@ use Rattle.fields.proofs.Places.{hold-next, hold_none}
 use Rattle.fields.proofs.picture.all_hold.Statement.{statement}
 use Rattle.fields.proofs.picture.all_hold.Tie as tie
 
-abbrev invariant-loop : tie.invariant-loop
-invariant-loop picture bits i₀ i = all_hold (drop i picture) (drop i bits) ≡ all_hold picture bits
+abbrev invariant-loop-i : tie.invariant-loop-i
+invariant-loop-i picture bits i₀ i = all_hold (drop i picture) (drop i bits) ≡ all_hold picture bits
 
-abbrev decreases-loop : tie.decreases-loop
-decreases-loop picture bits i₀ i = length picture - i
+abbrev decreases-loop-i : tie.decreases-loop-i
+decreases-loop-i picture bits i₀ i = length picture - i
 
-loop-holds : tie.Need-loop-init invariant-loop decreases-loop
-loop-holds c = refl
+loop-i-init : tie.Need-loop-i-init invariant-loop-i decreases-loop-i
+loop-i-init c = refl
 
-shared-slice-read-holds : tie.Need-shared-slice-read-init invariant-loop decreases-loop
-shared-slice-read-holds c = omega arith
+bounds-picture-i : tie.Need-bounds-picture-i invariant-loop-i decreases-loop-i
+bounds-picture-i c = omega arith
 
-shared-slice-read-holds-2 : tie.Need-shared-slice-read-init-2 invariant-loop decreases-loop
-shared-slice-read-holds-2 c = omega arith
+bounds-bits-i : tie.Need-bounds-bits-i invariant-loop-i decreases-loop-i
+bounds-bits-i c = omega arith
 
-holds-requires : tie.Need-holds-requires invariant-loop decreases-loop
+holds-requires : tie.Need-holds-requires invariant-loop-i decreases-loop-i
 holds-requires c κs = tt
 
 -- where place i was looked at: the loop, the start, and the test of the places behind it
-abbrev looked : tie.After-holds invariant-loop decreases-loop → tie.At-loop invariant-loop decreases-loop
+abbrev looked : tie.After-holds invariant-loop-i decreases-loop-i → tie.At-loop-i invariant-loop-i decreases-loop-i
 looked k = k.before.before.before.before
 
-abbrev given : tie.After-holds invariant-loop decreases-loop → tie.Start invariant-loop decreases-loop
+abbrev given : tie.After-holds invariant-loop-i decreases-loop-i → tie.Start invariant-loop-i decreases-loop-i
 given k = (looked k).before.before.before
 
-later : tie.After-holds invariant-loop decreases-loop → Bool
+later : tie.After-holds invariant-loop-i decreases-loop-i → Bool
 later k =
-    let i = (looked k).loop.i in
+    let i = (looked k).loop-i.i in
     all_hold (drop (i + 1) (given k).args.picture.now) (drop (i + 1) (given k).args.bits.now)
 
 -- the test of all is what was found of place i, and the test of those behind it
 place-tested :
-    (k : tie.After-holds invariant-loop decreases-loop)
+    (k : tie.After-holds invariant-loop-i decreases-loop-i)
     → all_hold (given k).args.picture.now (given k).args.bits.now ≡ (k.holds.result && later k)
 unfolding later
 place-tested k =
-    let i = (looked k).loop.i in
-    let taken = k.before.before.before.loop-test.true in
-    sym (looked k).loop.invariant
+    let i = (looked k).loop-i.i in
+    let taken = k.before.before.before.loop-i-test.true in
+    sym (looked k).loop-i.invariant
     ∙ (hold-next (given k).args.picture.now i (given k).args.bits.now taken (omega (arith, (given k).requires))
     ∙ ap (λ (v : Bool). v && later k) (sym k.holds.ensures))
 
-returns : tie.Need-returns invariant-loop decreases-loop
-returns c =
-    sym (place-tested c.before ∙ ap (λ (v : Bool). v && later c.before) (not-true c.before.holds.result c.if1.true))
+returns-then-not-holds : tie.Need-returns-then-not-holds invariant-loop-i decreases-loop-i
+returns-then-not-holds c =
+    sym (place-tested c.before ∙ ap (λ (v : Bool). v && later c.before) (c.if-not-holds.true))
 
-add-i : tie.Need-overflow-add-i invariant-loop decreases-loop
-add-i c = omega arith
+overflow_add-i : tie.Need-overflow_add-i invariant-loop-i decreases-loop-i
+overflow_add-i c = omega arith
 
-loop-less : tie.Need-loop-smaller invariant-loop decreases-loop
-loop-less c = omega arith
+loop-i-smaller : tie.Need-loop-i-smaller invariant-loop-i decreases-loop-i
+loop-i-smaller c = omega arith
 
-loop-again : tie.Need-loop-preserved invariant-loop decreases-loop
+loop-i-preserved : tie.Need-loop-i-preserved invariant-loop-i decreases-loop-i
 unfolding later
-loop-again c =
-    sym (place-tested c.before ∙ ap (λ (v : Bool). v && later c.before) (not-false c.before.holds.result c.if1.false))
+loop-i-preserved c =
+    sym (place-tested c.before ∙ ap (λ (v : Bool). v && later c.before) (c.if-not-holds.false))
 
-returns-2 : tie.Need-returns-2 invariant-loop decreases-loop
-returns-2 c =
+returns : tie.Need-returns invariant-loop-i decreases-loop-i
+returns c =
     let k = c.before in
     let a = k.before.before.before.args in
-    sym (hold_none a.picture.now k.loop.i a.bits.now c.loop-test.false) ∙ k.loop.invariant
+    sym (hold_none a.picture.now k.loop-i.i a.bits.now c.loop-i-test.false) ∙ k.loop-i.invariant
 
 pub all_hold_spec : {M : Type 1} → statement M
 all_hold_spec =
     tie.close
     (tie.spec
-    invariant-loop
-    decreases-loop
-    loop-holds
-    shared-slice-read-holds
-    shared-slice-read-holds-2
+    invariant-loop-i
+    decreases-loop-i
+    loop-i-init
+    bounds-picture-i
+    bounds-bits-i
     holds-requires
-    returns
-    add-i
-    loop-less
-    loop-again
-    returns-2)
+    returns-then-not-holds
+    overflow_add-i
+    loop-i-smaller
+    loop-i-preserved
+    returns)

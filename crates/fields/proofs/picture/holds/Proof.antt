@@ -7,11 +7,11 @@ use lib.Dec.{eqb}
 use Rattle.fields.proofs.picture.holds.Statement.{statement}
 use Rattle.fields.proofs.picture.holds.Tie as tie
 
-returns : tie.Need-returns
-returns c = sym (ap (λ (v : Bool). cond v true (eqb c.before.args.bit (c.before.args.place % 2))) (eq-eqb _ _ c.if1.true))
+returns-then-place-eq46 : tie.Need-returns-then-place-eq46
+returns-then-place-eq46 c = sym (ap (λ (v : Bool). cond v true (eqb c.before.args.bit (c.before.args.place % 2))) (eq-eqb _ _ c.if-place-eq46.true))
 
-returns-2 : tie.Need-returns-2
-returns-2 c = sym (ap (λ (v : Bool). cond v true (eqb c.before.args.bit (c.before.args.place % 2))) (ne_eqb _ _ c.if1.false))
+returns : tie.Need-returns
+returns c = sym (ap (λ (v : Bool). cond v true (eqb c.before.args.bit (c.before.args.place % 2))) (ne_eqb _ _ c.if-place-eq46.false))
 
 pub holds_spec : {M : Type 1} → statement M
-holds_spec = tie.close (tie.spec returns returns-2)
+holds_spec = tie.close (tie.spec returns-then-place-eq46 returns)

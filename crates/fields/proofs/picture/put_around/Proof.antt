@@ -7,71 +7,71 @@ use Rattle.fields.proofs.Places.{Framed, framed_none, framed-room, framed-free, 
 use Rattle.fields.proofs.picture.put_around.Statement.{statement}
 use Rattle.fields.proofs.picture.put_around.Tie as tie
 
-abbrev invariant-loop : tie.invariant-loop
-invariant-loop picture body bits₀ k₀ i₀ bits k i = Framed picture body bits₀ bits k i
+abbrev invariant-loop-i : tie.invariant-loop-i
+invariant-loop-i picture body bits₀ k₀ i₀ bits k i = Framed picture body bits₀ bits k i
 
-abbrev decreases-loop : tie.decreases-loop
-decreases-loop picture body bits₀ k₀ i₀ bits k i = length picture - i
+abbrev decreases-loop-i : tie.decreases-loop-i
+decreases-loop-i picture body bits₀ k₀ i₀ bits k i = length picture - i
 
-loop-holds : tie.Need-loop-init invariant-loop decreases-loop
-loop-holds c = let a = c.args in framed_none a.picture.now a.body.now a.bits.now c.requires.0 c.requires.1
+loop-i-init : tie.Need-loop-i-init invariant-loop-i decreases-loop-i
+loop-i-init c = let a = c.args in framed_none a.picture.now a.body.now a.bits.now c.requires.0 c.requires.1
 
-shared-slice-read-if1 : tie.Need-shared-slice-read-if1 invariant-loop decreases-loop
-shared-slice-read-if1 c = omega arith
+bounds-picture-i : tie.Need-bounds-picture-i invariant-loop-i decreases-loop-i
+bounds-picture-i c = omega arith
 
-shared-slice-read-bits : tie.Need-shared-slice-read-bits invariant-loop decreases-loop
-shared-slice-read-bits c =
+bounds-body-k : tie.Need-bounds-body-k invariant-loop-i decreases-loop-i
+bounds-body-k c =
     let k = c.before.before.before.before in
-    framed-room _ _ _ _ _ _ k.loop.invariant c.before.before.before.loop-test.true c.before.if1.true
+    framed-room _ _ _ _ _ _ k.loop-i.invariant c.before.before.before.loop-i-test.true c.before.if-picture-i-eq46.true
 
-slice-write-bits : tie.Need-slice-write-bits invariant-loop decreases-loop
-slice-write-bits c = omega arith
+bounds-bits-i : tie.Need-bounds-bits-i invariant-loop-i decreases-loop-i
+bounds-bits-i c = omega arith
 
-add-k : tie.Need-overflow-add-k invariant-loop decreases-loop
-add-k c = omega arith
+overflow_add-k : tie.Need-overflow_add-k invariant-loop-i decreases-loop-i
+overflow_add-k c = omega arith
 
-shared-slice-read-bits-2 : tie.Need-shared-slice-read-bits-2 invariant-loop decreases-loop
-shared-slice-read-bits-2 c = omega arith
+bounds-picture-i-else-picture-i-eq46 : tie.Need-bounds-picture-i-else-picture-i-eq46 invariant-loop-i decreases-loop-i
+bounds-picture-i-else-picture-i-eq46 c = omega arith
 
-slice-write-bits-2 : tie.Need-slice-write-bits-2 invariant-loop decreases-loop
-slice-write-bits-2 c = omega arith
+bounds-bits-i-else-picture-i-eq46 : tie.Need-bounds-bits-i-else-picture-i-eq46 invariant-loop-i decreases-loop-i
+bounds-bits-i-else-picture-i-eq46 c = omega arith
 
-add-i : tie.Need-overflow-add-i invariant-loop decreases-loop
-add-i c = omega arith
+overflow_add-i : tie.Need-overflow_add-i invariant-loop-i decreases-loop-i
+overflow_add-i c = omega arith
 
-loop-less : tie.Need-loop-smaller invariant-loop decreases-loop
-loop-less c = omega arith
+loop-i-smaller : tie.Need-loop-i-smaller invariant-loop-i decreases-loop-i
+loop-i-smaller c = omega arith
 
-loop-again : tie.Need-loop-preserved invariant-loop decreases-loop
-loop-again c =
+loop-i-preserved : tie.Need-loop-i-preserved invariant-loop-i decreases-loop-i
+loop-i-preserved c =
     let k = c.before.before.before in
-    let within = c.before.before.loop-test.true in
+    let within = c.before.before.loop-i-test.true in
     ⊎_elim
-    (λ w. rw (w.2, w.3) (framed-free _ _ _ _ _ _ k.loop.invariant within w.0.taken))
-    (λ w. rw (w.2, w.3) (framed_fixed _ _ _ _ _ _ k.loop.invariant within w.0.left))
-    c.if1.branch
+    (λ w. rw (w.2, w.3) (framed-free _ _ _ _ _ _ k.loop-i.invariant within w.0.taken))
+    (λ w. rw (w.2, w.3) (framed_fixed _ _ _ _ _ _ k.loop-i.invariant within w.0.left))
+    c.if-picture-i-eq46.branch
 
-same_length : tie.Need-same-length invariant-loop decreases-loop
-same_length c = c.before.loop.invariant.same
+shape_of-bits : tie.Need-shape_of-bits invariant-loop-i decreases-loop-i
+shape_of-bits c = c.before.loop-i.invariant.same
 
-returns : tie.Need-returns invariant-loop decreases-loop
-returns c = framed-all _ _ _ _ _ _ c.before.loop.invariant c.loop-test.false
+returns : tie.Need-returns invariant-loop-i decreases-loop-i
+returns c = framed-all _ _ _ _ _ _ c.before.loop-i.invariant c.loop-i-test.false
 
 pub put_around_spec : {M : Type 1} → statement M
 put_around_spec =
     tie.close
     (tie.spec
-    invariant-loop
-    decreases-loop
-    loop-holds
-    shared-slice-read-if1
-    shared-slice-read-bits
-    slice-write-bits
-    add-k
-    shared-slice-read-bits-2
-    slice-write-bits-2
-    add-i
-    loop-less
-    loop-again
-    same_length
+    invariant-loop-i
+    decreases-loop-i
+    loop-i-init
+    bounds-picture-i
+    bounds-body-k
+    bounds-bits-i
+    overflow_add-k
+    bounds-picture-i-else-picture-i-eq46
+    bounds-bits-i-else-picture-i-eq46
+    overflow_add-i
+    loop-i-smaller
+    loop-i-preserved
+    shape_of-bits
     returns)

@@ -7,66 +7,66 @@ use Rattle.fields.proofs.Places.{Gathered, gathered_none, gathered_room, gathere
 use Rattle.fields.proofs.picture.take_inside.Statement.{statement}
 use Rattle.fields.proofs.picture.take_inside.Tie as tie
 
-abbrev invariant-loop : tie.invariant-loop
-invariant-loop picture bits body₀ k₀ i₀ body k i = Gathered picture bits body₀ body k i
+abbrev invariant-loop-i : tie.invariant-loop-i
+invariant-loop-i picture bits body₀ k₀ i₀ body k i = Gathered picture bits body₀ body k i
 
-abbrev decreases-loop : tie.decreases-loop
-decreases-loop picture bits body₀ k₀ i₀ body k i = length picture - i
+abbrev decreases-loop-i : tie.decreases-loop-i
+decreases-loop-i picture bits body₀ k₀ i₀ body k i = length picture - i
 
-loop-holds : tie.Need-loop-init invariant-loop decreases-loop
-loop-holds c = let a = c.args in gathered_none a.picture.now a.bits.now a.body.now c.requires.1
+loop-i-init : tie.Need-loop-i-init invariant-loop-i decreases-loop-i
+loop-i-init c = let a = c.args in gathered_none a.picture.now a.bits.now a.body.now c.requires.1
 
-shared-slice-read-if1 : tie.Need-shared-slice-read-if1 invariant-loop decreases-loop
-shared-slice-read-if1 c = omega arith
+bounds-picture-i : tie.Need-bounds-picture-i invariant-loop-i decreases-loop-i
+bounds-picture-i c = omega arith
 
-shared-slice-read-body : tie.Need-shared-slice-read-body invariant-loop decreases-loop
-shared-slice-read-body c = omega arith
+bounds-bits-i : tie.Need-bounds-bits-i invariant-loop-i decreases-loop-i
+bounds-bits-i c = omega arith
 
-slice-write-body : tie.Need-slice-write-body invariant-loop decreases-loop
-slice-write-body c =
+bounds-body-k : tie.Need-bounds-body-k invariant-loop-i decreases-loop-i
+bounds-body-k c =
     let k = c.before.before.before.before in
-    gathered_room _ _ _ _ _ _ k.loop.invariant k.before.requires.0 c.before.before.before.loop-test.true c.before.if1.true
+    gathered_room _ _ _ _ _ _ k.loop-i.invariant k.before.requires.0 c.before.before.before.loop-i-test.true c.before.if-picture-i-eq46.true
 
-add-k : tie.Need-overflow-add-k invariant-loop decreases-loop
-add-k c = omega arith
+overflow_add-k : tie.Need-overflow_add-k invariant-loop-i decreases-loop-i
+overflow_add-k c = omega arith
 
-add-i : tie.Need-overflow-add-i invariant-loop decreases-loop
-add-i c = omega arith
+overflow_add-i : tie.Need-overflow_add-i invariant-loop-i decreases-loop-i
+overflow_add-i c = omega arith
 
-loop-less : tie.Need-loop-smaller invariant-loop decreases-loop
-loop-less c = omega arith
+loop-i-smaller : tie.Need-loop-i-smaller invariant-loop-i decreases-loop-i
+loop-i-smaller c = omega arith
 
-loop-again : tie.Need-loop-preserved invariant-loop decreases-loop
-loop-again c =
+loop-i-preserved : tie.Need-loop-i-preserved invariant-loop-i decreases-loop-i
+loop-i-preserved c =
     let k = c.before.before.before in
     let same = k.before.requires.0 in
-    let within = c.before.before.loop-test.true in
+    let within = c.before.before.loop-i-test.true in
     ⊎_elim
-    (λ w. rw (w.2, w.3) (gathered_free _ _ _ _ _ _ k.loop.invariant same within w.0.taken))
-    (λ w. rw (w.1, w.2) (gathered_fixed _ _ _ _ _ _ k.loop.invariant same within w.0.left))
-    c.if1.branch
+    (λ w. rw (w.2, w.3) (gathered_free _ _ _ _ _ _ k.loop-i.invariant same within w.0.taken))
+    (λ w. rw (w.1, w.2) (gathered_fixed _ _ _ _ _ _ k.loop-i.invariant same within w.0.left))
+    c.if-picture-i-eq46.branch
 
-same_length : tie.Need-same-length invariant-loop decreases-loop
-same_length c = c.before.loop.invariant.same
+shape_of-body : tie.Need-shape_of-body invariant-loop-i decreases-loop-i
+shape_of-body c = c.before.loop-i.invariant.same
 
-returns : tie.Need-returns invariant-loop decreases-loop
+returns : tie.Need-returns invariant-loop-i decreases-loop-i
 returns c =
     let k = c.before in
-    gathered_all _ _ _ _ _ _ k.loop.invariant k.before.requires.0 c.loop-test.false
+    gathered_all _ _ _ _ _ _ k.loop-i.invariant k.before.requires.0 c.loop-i-test.false
 
 pub take_inside_spec : {M : Type 1} → statement M
 take_inside_spec =
     tie.close
     (tie.spec
-    invariant-loop
-    decreases-loop
-    loop-holds
-    shared-slice-read-if1
-    shared-slice-read-body
-    slice-write-body
-    add-k
-    add-i
-    loop-less
-    loop-again
-    same_length
+    invariant-loop-i
+    decreases-loop-i
+    loop-i-init
+    bounds-picture-i
+    bounds-bits-i
+    bounds-body-k
+    overflow_add-k
+    overflow_add-i
+    loop-i-smaller
+    loop-i-preserved
+    shape_of-body
     returns)

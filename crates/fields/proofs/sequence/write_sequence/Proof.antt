@@ -20,102 +20,102 @@ room : (k : tie.Start) → length k.args.body.now ≡ bit_count (rows k.args.tab
 room k = k.requires.room ∙ (whole (sequence k.args.picture.now k.args.table.now) k.requires.whole).room
 
 -- the way back from where the fields are put to the test of 8, and to the start
-abbrev first : tie.After-put-fields-arg → tie.Else1
+abbrev first : tie.After-put_fields-arg-1 → tie.Else-lent-picture
 first k = k.before.before.before
 
-abbrev given : tie.Else1 → tie.Start
+abbrev given : tie.Else-lent-picture → tie.Start
 given k = k.before.before.before.before.before.before
 
-abbrev start : tie.After-put-fields → tie.Start
+abbrev start : tie.After-put_fields → tie.Start
 start k = given (first k.before)
 
 -- the way back from the last call to the one that puts the check, to the one that works it out, and to where the fields are put
-abbrev check-put : tie.After-put-around → tie.After-put-crc
-check-put k = k.before.before.before.before.before
+abbrev check-put : tie.After-put_around → tie.After-put_crc
+check-put k = k.before.before.before.before
 
-abbrev checked : tie.After-put-crc → tie.After-crc-of
+abbrev checked : tie.After-put_crc → tie.After-crc_of-check
 checked k = k.before.before
 
-abbrev fields : tie.After-crc-of → tie.After-put-fields
-fields k = k.before.before.before.before
+abbrev fields : tie.After-crc_of-check → tie.After-put_fields
+fields k = k.before.before.before
 
 -- the body with the fields
-abbrev spelt : tie.After-put-fields → List ℕ
-spelt k = k.put-fields.new.1.1.0
+abbrev spelt : tie.After-put_fields → List ℕ
+spelt k = k.put_fields.new.1.1.0
 
-spelt_length : (k : tie.After-put-fields) → length (spelt k) ≡ bit_count (rows (start k).args.table.now) + 16
+spelt_length : (k : tie.After-put_fields) → length (spelt k) ≡ bit_count (rows (start k).args.table.now) + 16
 spelt_length k =
     let a = (start k).args in
-    body-length a.table.now a.numbers.now a.body.now (spelt k) k.put-fields.ensures (room (start k))
+    body-length a.table.now a.numbers.now a.body-1.now (spelt k) k.put_fields.ensures (room (start k))
 
-returns : tie.Need-returns
-returns c = unwritten_8 _ _ _ _ c.if1.true
+returns-then-lent-picture : tie.Need-returns-then-lent-picture
+returns-then-lent-picture c = unwritten_8 _ _ _ _ c.if-lent-picture.true
 
-in-range-requires : tie.Need-in-range-requires
-in-range-requires c κs = search rules
+in_range-requires : tie.Need-in_range-requires
+in_range-requires c κs = search rules
 
-returns-2 : tie.Need-returns-2
-returns-2 c =
-    unwritten_18 _ _ _ _ c.before.before.if1.false
-    (sym c.before.in-range.ensures ∙ not-true c.before.in-range.result c.if2.true)
+returns-then-not-in_range : tie.Need-returns-then-not-in_range
+returns-then-not-in_range c =
+    unwritten_18 _ _ _ _ c.before.before.if-lent-picture.false
+    (sym c.before.in_range.ensures ∙ c.if-not-in_range.true)
 
-put-fields-requires : tie.Need-put-fields-requires
-put-fields-requires c κs =
+put_fields-requires : tie.Need-put_fields-requires
+put_fields-requires c κs =
     let s = given (first c) in
-    (s.pre.count, omega (arith, room s))
+    (s.requires.count, omega (arith, room s))
 
-sub_at : tie.Need-overflow-sub-at
-sub_at c = omega (arith, spelt_length c.before.before)
+overflow_sub-at : tie.Need-overflow_sub-at
+overflow_sub-at c = omega (arith, spelt_length c.before.before)
 
-crc-of-requires : tie.Need-crc-of-requires
-crc-of-requires c κs =
+crc_of-check-requires : tie.Need-crc_of-check-requires
+crc_of-check-requires c κs =
     let k = c.before.before.before in
     let a = (start k).args in (
       omega arith,
       omega arith,
-      front-bits a.table.now a.numbers.now a.body.now (spelt k) k.put-fields.ensures (room (start k)) _ refl,
+      front-bits a.table.now a.numbers.now a.body-1.now (spelt k) k.put_fields.ensures (room (start k)) _ refl,
     )
 
-put-crc-requires : tie.Need-put-crc-requires
-put-crc-requires c κs = omega (arith, spelt_length (fields c.before))
+put_crc-requires : tie.Need-put_crc-requires
+put_crc-requires c κs = omega (arith, spelt_length (fields c.before))
 
-put-around-requires : tie.Need-put-around-requires
-put-around-requires c κs = search rules
+put_around-requires : tie.Need-put_around-requires
+put_around-requires c κs = search rules
 
-same_length : tie.Need-same-length
-same_length c = search rules
+shape_of-body : tie.Need-shape_of-body
+shape_of-body c = search rules
 
-same-length-2 : tie.Need-same-length-2
-same-length-2 c = search rules
+shape_of-lent : tie.Need-shape_of-lent
+shape_of-lent c = search rules
 
-returns-3 : tie.Need-returns-3
+returns : tie.Need-returns
 unfolding sequence_of
-returns-3 c =
+returns c =
     let e = c.before.before in
     let p = check-put e in
-    let crc = (checked p).crc-of in
+    let crc = (checked p).crc_of-check in
     let k = fields (checked p) in
     let a = (start k).args in
     let tested = k.before.before in
-    let in-range = sym tested.before.in-range.ensures ∙ not-false tested.before.in-range.result tested.if2.left in
-    written_all _ _ _ _ (first k.before).if1.false in-range _
-    (e.put-around.ensures
+    let in-range = sym tested.before.in_range.ensures ∙ tested.if-not-in_range.false in
+    written_all _ _ _ _ (first k.before).if-lent-picture.false in-range _
+    (e.put_around.ensures
     ∙ ap (around a.picture.now)
-    (sealed_by_put a.table.now a.numbers.now a.body.now (spelt k) k.put-fields.ensures (room (start k)) _ refl
-    crc.result _ crc.ensures p.put-crc.ensures))
+    (sealed_by_put a.table.now a.numbers.now a.body-1.now (spelt k) k.put_fields.ensures (room (start k)) _ refl
+    crc.result _ crc.ensures p.put_crc.ensures))
 
 pub write_sequence_spec : {M : Type 1} → statement M
 write_sequence_spec =
     tie.close
     (tie.spec
-    returns
-    in-range-requires
-    returns-2
-    put-fields-requires
-    sub_at
-    crc-of-requires
-    put-crc-requires
-    put-around-requires
-    same_length
-    same-length-2
-    returns-3)
+    returns-then-lent-picture
+    in_range-requires
+    returns-then-not-in_range
+    put_fields-requires
+    overflow_sub-at
+    crc_of-check-requires
+    put_crc-requires
+    put_around-requires
+    shape_of-body
+    shape_of-lent
+    returns)

@@ -7,11 +7,11 @@ use lib.Dec.{leb}
 use Rattle.fields.proofs.table.lies.Statement.{statement}
 use Rattle.fields.proofs.table.lies.Tie as tie
 
-returns : tie.Need-returns
-returns c = sym (ap (λ (v : Bool). v && leb c.before.args.number (c.before.args.row % 100000)) (lt-leb _ _ c.if1.true))
+returns-then-number-row : tie.Need-returns-then-number-row
+returns-then-number-row c = sym (ap (λ (v : Bool). v && leb c.before.args.number (c.before.args.row % 100000)) (lt-leb _ _ c.if-number-row.true))
 
-returns-2 : tie.Need-returns-2
-returns-2 c = sym (ap (λ (v : Bool). v && leb c.before.args.number (c.before.args.row % 100000)) (le-leb _ _ c.if1.false))
+returns : tie.Need-returns
+returns c = sym (ap (λ (v : Bool). v && leb c.before.args.number (c.before.args.row % 100000)) (le-leb _ _ c.if-number-row.false))
 
 pub lies_spec : {M : Type 1} → statement M
-lies_spec = tie.close (tie.spec returns returns-2)
+lies_spec = tie.close (tie.spec returns-then-number-row returns)

@@ -7,90 +7,90 @@ use Rattle.fields.proofs.Rows.{Spelt, spelt_none, spelt_room, spelt_more, spelt_
 use Rattle.fields.proofs.table.put_fields.Statement.{statement}
 use Rattle.fields.proofs.table.put_fields.Tie as tie
 
-abbrev invariant-loop : tie.invariant-loop
-invariant-loop table numbers body₀ at₀ k₀ body at k = Spelt table numbers body₀ body at k
+abbrev invariant-loop-k : tie.invariant-loop-k
+invariant-loop-k table numbers body₀ at₀ k₀ body at k = Spelt table numbers body₀ body at k
 
-abbrev decreases-loop : tie.decreases-loop
-decreases-loop table numbers body₀ at₀ k₀ body at k = length numbers - k
+abbrev decreases-loop-k : tie.decreases-loop-k
+decreases-loop-k table numbers body₀ at₀ k₀ body at k = length numbers - k
 
-loop-holds : tie.Need-loop-init invariant-loop decreases-loop
-loop-holds c =
+loop-k-init : tie.Need-loop-k-init invariant-loop-k decreases-loop-k
+loop-k-init c =
     let s = c.before.before.before in
     spelt_none s.args.table.now s.args.numbers.now s.args.body.now s.requires.1
 
-mul-width-of : tie.Need-overflow-mul-width-of invariant-loop decreases-loop
-mul-width-of c = omega arith
+offset_bounds-table-k : tie.Need-offset_bounds-table-k invariant-loop-k decreases-loop-k
+offset_bounds-table-k c = omega arith
 
-shared-slice-read-width-of : tie.Need-shared-slice-read-width-of invariant-loop decreases-loop
-shared-slice-read-width-of c = omega arith
+bounds-table-k : tie.Need-bounds-table-k invariant-loop-k decreases-loop-k
+bounds-table-k c = omega arith
 
-width-of-requires : tie.Need-width-of-requires invariant-loop decreases-loop
-width-of-requires c κs = tt
+width_of-width-requires : tie.Need-width_of-width-requires invariant-loop-k decreases-loop-k
+width_of-width-requires c κs = tt
 
-mul-put-digits : tie.Need-overflow-mul-put-digits invariant-loop decreases-loop
-mul-put-digits c = omega arith
+offset_bounds-numbers-k : tie.Need-offset_bounds-numbers-k invariant-loop-k decreases-loop-k
+offset_bounds-numbers-k c = omega arith
 
-shared-slice-read-put-digits : tie.Need-shared-slice-read-put-digits invariant-loop decreases-loop
-shared-slice-read-put-digits c = omega arith
+bounds-numbers-k : tie.Need-bounds-numbers-k invariant-loop-k decreases-loop-k
+bounds-numbers-k c = omega arith
 
 -- the loop and the start, from where row k was looked at
-abbrev here : tie.After-width-of invariant-loop decreases-loop → tie.At-loop invariant-loop decreases-loop
+abbrev here : tie.After-width_of-width invariant-loop-k decreases-loop-k → tie.At-loop-k invariant-loop-k decreases-loop-k
 here k = k.before.before.before
 
-abbrev given : tie.At-loop invariant-loop decreases-loop → tie.Start invariant-loop decreases-loop
+abbrev given : tie.At-loop-k invariant-loop-k decreases-loop-k → tie.Start invariant-loop-k decreases-loop-k
 given l = l.before.before.before.before
 
 -- and the row, from where its bits were put
-abbrev row : tie.After-put-digits invariant-loop decreases-loop → tie.After-width-of invariant-loop decreases-loop
+abbrev row : tie.After-put_digits invariant-loop-k decreases-loop-k → tie.After-width_of-width invariant-loop-k decreases-loop-k
 row c = c.before.before.before
 
 -- there is room for the bits of row k
-room-here : (k : tie.After-width-of invariant-loop decreases-loop) → (here k).loop.at + k.width_of_lem.result ≤ length (here k).loop.body
+room-here : (k : tie.After-width_of-width invariant-loop-k decreases-loop-k) → (here k).loop-k.at + k.width_of-width.result ≤ length (here k).loop-k.body
 room-here k =
-    let room = spelt_room _ _ _ _ _ _ (here k).loop.invariant (omega (arith, (given (here k)).pre.0)) in
-    omega (arith, room, k.width_of_lem.ensures)
+    let room = spelt_room _ _ _ _ _ _ (here k).loop-k.invariant (omega (arith, (given (here k)).requires.0)) in
+    omega (arith, room, k.width_of-width.ensures)
 
-put-digits-requires : tie.Need-put-digits-requires invariant-loop decreases-loop
-put-digits-requires c κs = room-here c.before.before
+put_digits-requires : tie.Need-put_digits-requires invariant-loop-k decreases-loop-k
+put_digits-requires c κs = room-here c.before.before
 
-add_at : tie.Need-overflow-add-at invariant-loop decreases-loop
-add_at c = let k = row c.before.before in omega (arith, room-here k, (here k).loop.inv.same)
+overflow_add-at : tie.Need-overflow_add-at invariant-loop-k decreases-loop-k
+overflow_add-at c = let k = row c.before.before in omega (arith, room-here k, (here k).loop-k.invariant.same)
 
-add-k : tie.Need-overflow-add-k invariant-loop decreases-loop
-add-k c = omega arith
+overflow_add-k : tie.Need-overflow_add-k invariant-loop-k decreases-loop-k
+overflow_add-k c = omega arith
 
-loop-less : tie.Need-loop-smaller invariant-loop decreases-loop
-loop-less c = omega arith
+loop-k-smaller : tie.Need-loop-k-smaller invariant-loop-k decreases-loop-k
+loop-k-smaller c = omega arith
 
-loop-again : tie.Need-loop-preserved invariant-loop decreases-loop
-loop-again c =
+loop-k-preserved : tie.Need-loop-k-preserved invariant-loop-k decreases-loop-k
+loop-k-preserved c =
     let p = c.before.before in
     let k = row p in
-    let more = spelt_more _ _ _ _ _ _ (here k).loop.inv (omega (arith, (given (here k)).pre.0)) in
-    rw k.width_of_lem.ensures (more _ (p.put-digits.ensures ∙ rw k.width_of_lem.ensures))
+    let more = spelt_more _ _ _ _ _ _ (here k).loop-k.invariant (omega (arith, (given (here k)).requires.0)) in
+    rw k.width_of-width.ensures (more _ (p.put_digits.ensures ∙ rw k.width_of_lem.ensures))
 
-same_length : tie.Need-same-length invariant-loop decreases-loop
-same_length c = c.before.loop.invariant.same
+shape_of-body : tie.Need-shape_of-body invariant-loop-k decreases-loop-k
+shape_of-body c = c.before.loop-k.invariant.same
 
-returns : tie.Need-returns invariant-loop decreases-loop
-returns c = spelt_all _ _ _ _ _ _ c.before.loop.invariant (omega (arith, (given c.before).pre.0))
+returns : tie.Need-returns invariant-loop-k decreases-loop-k
+returns c = spelt_all _ _ _ _ _ _ c.before.loop-k.invariant (omega (arith, (given c.before).requires.0))
 
 pub put_fields_spec : {M : Type 1} → statement M
 put_fields_spec =
     tie.close
     (tie.spec
-    invariant-loop
-    decreases-loop
-    loop-holds
-    mul-width-of
-    shared-slice-read-width-of
-    width-of-requires
-    mul-put-digits
-    shared-slice-read-put-digits
-    put-digits-requires
-    add_at
-    add-k
-    loop-less
-    loop-again
-    same_length
+    invariant-loop-k
+    decreases-loop-k
+    loop-k-init
+    offset_bounds-table-k
+    bounds-table-k
+    width_of-width-requires
+    offset_bounds-numbers-k
+    bounds-numbers-k
+    put_digits-requires
+    overflow_add-at
+    overflow_add-k
+    loop-k-smaller
+    loop-k-preserved
+    shape_of-body
     returns)

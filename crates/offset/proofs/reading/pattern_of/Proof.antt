@@ -3,8 +3,8 @@ use mathlib.Core.Path.{sym, ap, subst}
 use borrow.Author.Rules.{rules}
 use Rattle.offset.specs.Hertz.{pattern_of}
 use Rattle.offset.specs.Requires.{NoNan}
-use Rattle.offset.proofs.reading-1.pattern_of.Statement.{statement}
-use Rattle.offset.proofs.reading-1.pattern_of.Tie as tie
+use Rattle.offset.proofs.reading.pattern_of.Statement.{statement}
+use Rattle.offset.proofs.reading.pattern_of.Tie as tie
 
 enum_known-reading : tie.Need-enum_known-reading
 enum_known-reading c = search rules
