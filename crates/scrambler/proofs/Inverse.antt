@@ -37,22 +37,22 @@ push_all-below register (bit ∷ bits) h = push_all-below (push register bit) bi
 pub length-scramble : (role register : ℕ) (bits : List ℕ) → length (scramble role register bits) ≡ length bits
 unfolding scramble
 length-scramble role register [] = refl
-length-scramble role register (bit ∷ bits) = ap suc (length-scramble role _ bits)
+length-scramble role register (bit ∷ bits) = ap suc (length-scramble role (push register (scrambled_bit role register bit)) bits)
 
 pub length-descramble : (role register : ℕ) (outs : List ℕ) → length (descramble role register outs) ≡ length outs
 unfolding descramble
 length-descramble role register [] = refl
-length-descramble role register (out ∷ outs) = ap suc (length-descramble role _ outs)
+length-descramble role register (out ∷ outs) = ap suc (length-descramble role (push register out) outs)
 
 pub bits-scramble : (role register : ℕ) (bits : List ℕ) → Bits (scramble role register bits)
 unfolding scramble
 bits-scramble role register [] = tt
-bits-scramble role register (bit ∷ bits) = (bit-out role register bit, bits-scramble role _ bits)
+bits-scramble role register (bit ∷ bits) = (bit-out role register bit, bits-scramble role (push register (scrambled_bit role register bit)) bits)
 
 pub bits-descramble : (role register : ℕ) (outs : List ℕ) → Bits (descramble role register outs)
 unfolding descramble
 bits-descramble role register [] = tt
-bits-descramble role register (out ∷ outs) = (bit-out role register out, bits-descramble role _ outs)
+bits-descramble role register (out ∷ outs) = (bit-out role register out, bits-descramble role (push register out) outs)
 
 -- reading what was scrambled gives the bits back
 pub descramble-scramble : (role register : ℕ) (bits : List ℕ) → Bits bits → descramble role register (scramble role register bits) ≡ bits

@@ -93,13 +93,13 @@ module _ (taken : ℕ → ℕ → ℕ) (role : ℕ) where
 out-passed : (role register : ℕ) (bits : List ℕ) → passed (scrambled_bit role) role register bits ≡ scramble role register bits
 unfolding passed scramble
 out-passed role register [] = refl
-out-passed role register (bit ∷ bits) = ap (λ (l : List ℕ). scrambled_bit role register bit ∷ l) (out-passed role _ bits)
+out-passed role register (bit ∷ bits) = ap (λ (l : List ℕ). scrambled_bit role register bit ∷ l) (out-passed role (push register (scrambled_bit role register bit)) bits)
 
 out-held :
     (role register : ℕ) (bits : List ℕ) → passed_held (scrambled_bit role) role register bits ≡ push_all register (scramble role register bits)
 unfolding passed_held push_all scramble
 out-held role register [] = refl
-out-held role register (bit ∷ bits) = out-held role _ bits
+out-held role register (bit ∷ bits) = out-held role (push register (scrambled_bit role register bit)) bits
 
 pub scrambled :
     (role register : ℕ) (bits out₀ out : List ℕ) (held i : ℕ)
@@ -119,12 +119,12 @@ received register bit = bit
 back-passed : (role register : ℕ) (outs : List ℕ) → passed received role register outs ≡ descramble role register outs
 unfolding passed descramble
 back-passed role register [] = refl
-back-passed role register (out ∷ outs) = ap (λ (l : List ℕ). scrambled_bit role register out ∷ l) (back-passed role _ outs)
+back-passed role register (out ∷ outs) = ap (λ (l : List ℕ). scrambled_bit role register out ∷ l) (back-passed role (push register out) outs)
 
 back-held : (role register : ℕ) (outs : List ℕ) → passed_held received role register outs ≡ push_all register outs
 unfolding passed_held push_all
 back-held role register [] = refl
-back-held role register (out ∷ outs) = back-held role _ outs
+back-held role register (out ∷ outs) = back-held role (push register out) outs
 
 pub descrambled :
     (role register : ℕ) (outs bits₀ bits : List ℕ) (held i : ℕ)

@@ -47,9 +47,9 @@ loop-i-preserved c =
     let k = c.before.before.before in
     let within = c.before.before.loop-i-test.true in
     ⊎_elim
-    (λ w. rw (w.2, w.3) (framed-free _ _ _ _ _ _ k.loop-i.invariant within w.0.taken))
-    (λ w. rw (w.2, w.3) (framed_fixed _ _ _ _ _ _ k.loop-i.invariant within w.0.left))
-    c.if-picture-i-eq46.branch
+    (λ w. rw (w.bits-is, w.k-is) (framed-free _ _ _ _ _ _ k.loop-i.invariant within w.if-picture-i-eq46.true))
+    (λ w. rw (w.bits-is, w.k-is) (framed_fixed _ _ _ _ _ _ k.loop-i.invariant within w.if-picture-i-eq46.false))
+    c.if-picture-i-eq46.branch-raw
 
 shape_of-bits : tie.Need-shape_of-bits invariant-loop-i decreases-loop-i
 shape_of-bits c = c.before.loop-i.invariant.same

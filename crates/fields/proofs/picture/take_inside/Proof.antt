@@ -42,9 +42,9 @@ loop-i-preserved c =
     let same = k.before.requires.0 in
     let within = c.before.before.loop-i-test.true in
     ⊎_elim
-    (λ w. rw (w.2, w.3) (gathered_free _ _ _ _ _ _ k.loop-i.invariant same within w.0.taken))
-    (λ w. rw (w.1, w.2) (gathered_fixed _ _ _ _ _ _ k.loop-i.invariant same within w.0.left))
-    c.if-picture-i-eq46.branch
+    (λ w. rw (w.body-is, w.k-is) (gathered_free _ _ _ _ _ _ k.loop-i.invariant same within w.if-picture-i-eq46.true))
+    (λ w. rw (w.body-is, w.k-is) (gathered_fixed _ _ _ _ _ _ k.loop-i.invariant same within w.if-picture-i-eq46.false))
+    c.if-picture-i-eq46.branch-raw
 
 shape_of-body : tie.Need-shape_of-body invariant-loop-i decreases-loop-i
 shape_of-body c = c.before.loop-i.invariant.same

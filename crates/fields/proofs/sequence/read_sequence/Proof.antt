@@ -66,7 +66,7 @@ body-length k =
 check : (k : tie.After-crc_of) → k.crc_of.result ≡ high_value (crc (body (fixed k.before)))
 check k =
     let t = (taken k.before).take_inside in
-    k.crc_of.ensures ∙ (whole-body t.last.1.1.0 ∙ ap (λ b. high_value (crc b)) t.ensures)
+    k.crc_of.ensures ∙ (whole-body t.new.body ∙ ap (λ b. high_value (crc b)) t.ensures)
 
 open_body : (k : tie.Then-crc_of-ne0) → is_sealed (count (fixed k.before.before)) (body (fixed k.before.before)) ≡ false
 open_body k =
@@ -104,7 +104,7 @@ take_inside-requires c κs = search rules
 crc_of-requires : tie.Need-crc_of-requires
 crc_of-requires c κs =
     let t = (taken c).take_inside in
-    (omega arith, omega arith, subst Bits (sym (take-length t.last.1.1.0 ∙ t.ensures)) (body-bits (fixed c)))
+    (omega arith, omega arith, subst Bits (sym (take-length t.new.body ∙ t.ensures)) (body-bits (fixed c)))
 
 shape_of-body-then-crc_of-ne0 : tie.Need-shape_of-body-then-crc_of-ne0
 shape_of-body-then-crc_of-ne0 c = search rules

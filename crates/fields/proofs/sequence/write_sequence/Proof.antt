@@ -41,12 +41,12 @@ fields k = k.before.before.before
 
 -- the body with the fields
 abbrev spelt : tie.After-put_fields → List ℕ
-spelt k = k.put_fields.new.1.1.0
+spelt k = k.put_fields.new.body
 
 spelt_length : (k : tie.After-put_fields) → length (spelt k) ≡ bit_count (rows (start k).args.table.now) + 16
 spelt_length k =
     let a = (start k).args in
-    body-length a.table.now a.numbers.now a.body-1.now (spelt k) k.put_fields.ensures (room (start k))
+    body-length a.table.now a.numbers.now a.body.now (spelt k) k.put_fields.ensures (room (start k))
 
 returns-then-lent-picture : tie.Need-returns-then-lent-picture
 returns-then-lent-picture c = unwritten_8 _ _ _ _ c.if-lent-picture.true
@@ -69,11 +69,11 @@ overflow_sub-at c = omega (arith, spelt_length c.before.before)
 
 crc_of-check-requires : tie.Need-crc_of-check-requires
 crc_of-check-requires c κs =
-    let k = c.before.before.before in
+    let k = c.before.before in
     let a = (start k).args in (
       omega arith,
       omega arith,
-      front-bits a.table.now a.numbers.now a.body-1.now (spelt k) k.put_fields.ensures (room (start k)) _ refl,
+      front-bits a.table.now a.numbers.now a.body.now (spelt k) k.put_fields.ensures (room (start k)) _ refl,
     )
 
 put_crc-requires : tie.Need-put_crc-requires
@@ -101,7 +101,7 @@ returns c =
     written_all _ _ _ _ (first k.before).if-lent-picture.false in-range _
     (e.put_around.ensures
     ∙ ap (around a.picture.now)
-    (sealed_by_put a.table.now a.numbers.now a.body-1.now (spelt k) k.put_fields.ensures (room (start k)) _ refl
+    (sealed_by_put a.table.now a.numbers.now a.body.now (spelt k) k.put_fields.ensures (room (start k)) _ refl
     crc.result _ crc.ensures p.put_crc.ensures))
 
 pub write_sequence_spec : {M : Type 1} → statement M

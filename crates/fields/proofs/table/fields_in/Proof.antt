@@ -51,7 +51,7 @@ value_at-requires : tie.Need-value_at-requires invariant-loop-k decreases-loop-k
 value_at-requires c κs =
     let s = given (here c) in
     let w = (found_within _ _ _ _ _ (here c).loop-k.invariant (omega (arith, s.requires.0))).0 in
-    (omega (arith, w.0, (first c).first_of-first.ensures, c.width_of-width.ensures), omega (arith, w.1, c.width_of_lem.ensures), s.requires.2)
+    (omega (arith, w.0, (first c).first_of-first.ensures, c.width_of-width.ensures), omega (arith, w.1, c.width_of-width.ensures), s.requires.2)
 
 offset_bounds-numbers-k : tie.Need-offset_bounds-numbers-k invariant-loop-k decreases-loop-k
 offset_bounds-numbers-k c = omega arith

@@ -67,7 +67,7 @@ loop-k-preserved c =
     let p = c.before.before in
     let k = row p in
     let more = spelt_more _ _ _ _ _ _ (here k).loop-k.invariant (omega (arith, (given (here k)).requires.0)) in
-    rw k.width_of-width.ensures (more _ (p.put_digits.ensures ∙ rw k.width_of_lem.ensures))
+    rw k.width_of-width.ensures (more _ (p.put_digits.ensures ∙ rw k.width_of-width.ensures))
 
 shape_of-body : tie.Need-shape_of-body invariant-loop-k decreases-loop-k
 shape_of-body c = c.before.loop-k.invariant.same
