@@ -5,6 +5,7 @@
 // How does it work? The lowest weight comes first: a number is halved bit by bit as it is put, and doubled as it is taken, from its last
 // bit on.
 #![tactic(auto)]
+
 ghost use Rattle.std.specs.Prelude.{[], ◌∷◌, ◌≡◌, ◌+◌, ◌≤◌, ◌<◌, length, take, drop};
 ghost use Rattle.laws.specs.Put.{put};
 ghost use Rattle.bits.specs.Digits.{value, digits, Bits, all_bits};

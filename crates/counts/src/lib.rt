@@ -6,6 +6,7 @@
 // 1,242 numbers, whose one reader is `lighter_row`. It is done once for an M; `rings` then goes by the rows. A place is sought from 0
 // up, and each trial takes one product off.
 #![tactic(auto)]
+
 pub mod counts;
 pub mod places;
 mod table;

@@ -5,6 +5,7 @@
 // How does it work? `picture` tests the fixed places, and takes out what stands in the free ones or puts it there; `check` works out the
 // check over that; `table` goes from bits to numbers and back; `sequence` puts the three together.
 #![tactic(auto)]
+
 pub mod check;
 pub mod picture;
 pub mod sequence;

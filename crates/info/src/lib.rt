@@ -6,5 +6,6 @@
 // How does it work? A sequence is two constants, a picture of its places and a table of its fields, and a struct that names them. Crate
 // `fields` reads and writes by the constants, and crate `offset` knows what the count of INFO1c is in hertz.
 #![tactic(auto)]
+
 pub mod info0;
 pub mod info1c;

@@ -6,5 +6,6 @@
 // `fields` reads and writes. Start bits stand between the fields, so they are of the picture, and the check leaves them out. What is
 // reserved is a field that may be anything, and that the struct does not show.
 #![tactic(auto)]
+
 pub mod part;
 pub mod sequence;

@@ -4,6 +4,7 @@
 // worked out, or the refusal number. Silence is never taken for permission: a mark that is neither 0 nor 1 is refused at every rate.
 // How does it work? The six symbol rates are constants of a type; b, r, q and K follow by divisions, and M from two tables over K.
 #![tactic(auto)]
+
 pub mod asked;
 pub mod numbers;
 pub mod rate;

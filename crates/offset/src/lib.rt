@@ -4,5 +4,6 @@
 // what it is in hertz, or that there is no reading.
 // How does it work? The count is the measure, and it alone is ever sent again: hertz are one division away and are only shown.
 #![tactic(auto)]
+
 pub mod reading;
 pub mod signed;

@@ -12,58 +12,50 @@ use Rattle.info.specs.Info0.{info0}
 use Rattle.info.proofs.info0.read.Statement.{statement}
 use Rattle.info.proofs.info0.read.Tie as tie
 
-slice-aggregate-read-sequence : tie.Need-slice-aggregate-read-sequence
-slice-aggregate-read-sequence c = search rules
+slice_bounds-read_sequence-end-3 : tie.Need-slice_bounds-read_sequence-end-3
+slice_bounds-read_sequence-end-3 c = search rules
 
-slice-aggregate-read-sequence-2 : tie.Need-slice-aggregate-read-sequence-2
-slice-aggregate-read-sequence-2 c = search rules
+slice_bounds-read_sequence-end-4 : tie.Need-slice_bounds-read_sequence-end-4
+slice_bounds-read_sequence-end-4 c = search rules
 
-slice-aggregate-read-sequence-3 : tie.Need-slice-aggregate-read-sequence-3
-slice-aggregate-read-sequence-3 c = search rules
-
-slice-aggregate-read-sequence-4 : tie.Need-slice-aggregate-read-sequence-4
-slice-aggregate-read-sequence-4 c = search rules
-
-read-sequence-requires : tie.Need-read-sequence-requires
+read_sequence-refusal-requires : tie.Need-read_sequence-refusal-requires
 unfolding is_whole is_narrow is_laid free bit_count rows
-read-sequence-requires c κs = record { whole = refl; narrow = refl; count = refl; room = refl }
+read_sequence-refusal-requires c κs = record { whole = refl; narrow = refl; count = refl; room = refl }
 
-fields-of-requires : tie.Need-fields-of-requires
-fields-of-requires c κs = search rules
+fields_of-none-requires : tie.Need-fields_of-none-requires
+fields_of-none-requires c κs = search rules
+
+returns-then-refusal-ne0 : tie.Need-returns-then-refusal-ne0
+unfolding info0 framed fixed places fill sync rows
+returns-then-refusal-ne0 c =
+    let k = c.read_sequence-refusal in
+    record {
+      number = k.ensures.number;
+      fields = c.fields_of-none.ensures ∙ (answer-zeros info0 _ _ k.ensures.number c.if-refusal-ne0.true).fields;
+    }
+
+fields_of-found-requires : tie.Need-fields_of-found-requires
+fields_of-found-requires c κs = search rules
 
 returns : tie.Need-returns
 unfolding info0 framed fixed places fill sync rows
 returns c =
-    let k = c.before.before.before.before.read-sequence in
-    record {
-      number = k.ensures.number;
-      fields = c.fields-of.ensures ∙ (answer-zeros info0 _ _ k.ensures.number c.before.if1.true).fields;
-    }
-
-fields-of-requires-2 : tie.Need-fields-of-requires-2
-fields-of-requires-2 c κs = search rules
-
-returns-2 : tie.Need-returns-2
-unfolding info0 framed fixed places fill sync rows
-returns-2 c =
-    let k = c.before.before.before.before.read-sequence in
-    let none = c.before.if1.false in
+    let k = c.read_sequence-refusal in
+    let none = c.if-refusal-ne0.false in
     let read = sym k.ensures.number ∙ none in
     record {
       number = sym read;
-      fields = c.fields-of2.ensures ∙ (k.ensures.fields none ∙ (answer-fields info0 _ read).fields);
+      fields = c.fields_of-found.ensures ∙ (k.ensures.fields none ∙ (answer-fields info0 _ read).fields);
     }
 
 pub read_spec : {M : Type 1} → statement M
 read_spec =
     tie.close
     (tie.spec
-    slice-aggregate-read-sequence
-    slice-aggregate-read-sequence-2
-    slice-aggregate-read-sequence-3
-    slice-aggregate-read-sequence-4
-    read-sequence-requires
-    fields-of-requires
-    returns
-    fields-of-requires-2
-    returns-2)
+    slice_bounds-read_sequence-end-3
+    slice_bounds-read_sequence-end-4
+    read_sequence-refusal-requires
+    fields_of-none-requires
+    returns-then-refusal-ne0
+    fields_of-found-requires
+    returns)

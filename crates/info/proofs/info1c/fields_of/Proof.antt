@@ -3,32 +3,32 @@ use borrow.Author.Rules.{rules}
 use Rattle.info.proofs.info1c.fields_of.Statement.{statement}
 use Rattle.info.proofs.info1c.fields_of.Tie as tie
 
-block-of-requires : tie.Need-block-of-requires
-block-of-requires c κs = search rules
+block_of-at_2400-requires : tie.Need-block_of-at_2400-requires
+block_of-at_2400-requires c κs = search rules
 
-block-of-requires-2 : tie.Need-block-of-requires-2
-block-of-requires-2 c κs = search rules
+block_of-at_2743-requires : tie.Need-block_of-at_2743-requires
+block_of-at_2743-requires c κs = search rules
 
-block-of-requires-3 : tie.Need-block-of-requires-3
-block-of-requires-3 c κs = search rules
+block_of-at_2800-requires : tie.Need-block_of-at_2800-requires
+block_of-at_2800-requires c κs = search rules
 
-block-of-requires-4 : tie.Need-block-of-requires-4
-block-of-requires-4 c κs = search rules
+block_of-at_3000-requires : tie.Need-block_of-at_3000-requires
+block_of-at_3000-requires c κs = search rules
 
-block-of-requires-5 : tie.Need-block-of-requires-5
-block-of-requires-5 c κs = search rules
+block_of-at_3200-requires : tie.Need-block_of-at_3200-requires
+block_of-at_3200-requires c κs = search rules
 
-block-of-requires-6 : tie.Need-block-of-requires-6
-block-of-requires-6 c κs = search rules
+block_of-at_3429-requires : tie.Need-block_of-at_3429-requires
+block_of-at_3429-requires c κs = search rules
 
-array-read-t12 : tie.Need-array-read-t12
-array-read-t12 c = search rules
+bounds-numbers-0 : tie.Need-bounds-numbers-0
+bounds-numbers-0 c = search rules
 
-array-read-t15 : tie.Need-array-read-t15
-array-read-t15 c = search rules
+bounds-numbers-1 : tie.Need-bounds-numbers-1
+bounds-numbers-1 c = search rules
 
-array-read-t18 : tie.Need-array-read-t18
-array-read-t18 c = search rules
+bounds-numbers-2 : tie.Need-bounds-numbers-2
+bounds-numbers-2 c = search rules
 
 returns : tie.Need-returns
 returns c =
@@ -37,25 +37,25 @@ returns c =
     let c3 = c4.before in
     let c2 = c3.before in
     rw (
-      c.block-of6.ensures,
-      c5.block-of5.ensures,
-      c4.block-of4.ensures,
-      c3.block-of3.ensures,
-      c2.block-of2.ensures,
-      c2.before.Block-of.ensures,
+      c.block_of-at_3429.ensures,
+      c5.block_of-at_3200.ensures,
+      c4.block_of-at_3000.ensures,
+      c3.block_of-at_2800.ensures,
+      c2.block_of-at_2743.ensures,
+      c2.block_of-at_2400.ensures,
     )
 
 pub fields_of_spec : {M : Type 1} → statement M
 fields_of_spec =
     tie.close
     (tie.spec
-    block-of-requires
-    block-of-requires-2
-    block-of-requires-3
-    block-of-requires-4
-    block-of-requires-5
-    block-of-requires-6
-    array-read-t12
-    array-read-t15
-    array-read-t18
+    block_of-at_2400-requires
+    block_of-at_2743-requires
+    block_of-at_2800-requires
+    block_of-at_3000-requires
+    block_of-at_3200-requires
+    block_of-at_3429-requires
+    bounds-numbers-0
+    bounds-numbers-1
+    bounds-numbers-2
     returns)

@@ -19,86 +19,78 @@ use Rattle.info.proofs.Reports.{count_held, answer-refused, answer-read}
 use Rattle.info.proofs.info1c.read.Statement.{statement}
 use Rattle.info.proofs.info1c.read.Tie as tie
 
-slice-aggregate-read-sequence : tie.Need-slice-aggregate-read-sequence
-slice-aggregate-read-sequence c = search rules
+slice_bounds-read_sequence-end-3 : tie.Need-slice_bounds-read_sequence-end-3
+slice_bounds-read_sequence-end-3 c = search rules
 
-slice-aggregate-read-sequence-2 : tie.Need-slice-aggregate-read-sequence-2
-slice-aggregate-read-sequence-2 c = search rules
+slice_bounds-read_sequence-end-4 : tie.Need-slice_bounds-read_sequence-end-4
+slice_bounds-read_sequence-end-4 c = search rules
 
-slice-aggregate-read-sequence-3 : tie.Need-slice-aggregate-read-sequence-3
-slice-aggregate-read-sequence-3 c = search rules
-
-slice-aggregate-read-sequence-4 : tie.Need-slice-aggregate-read-sequence-4
-slice-aggregate-read-sequence-4 c = search rules
-
-read-sequence-requires : tie.Need-read-sequence-requires
+read_sequence-refusal-requires : tie.Need-read_sequence-refusal-requires
 unfolding is_whole is_narrow is_laid free bit_count rows
-read-sequence-requires c κs = record { whole = refl; narrow = refl; count = refl; room = refl }
+read_sequence-refusal-requires c κs = record { whole = refl; narrow = refl; count = refl; room = refl }
 
 -- the reader of any sequence was asked
-abbrev asked : tie.After-numbers2 → tie.After-read-sequence
+abbrev asked : tie.After-numbers-2-1 → tie.After-read_sequence-refusal
 asked k = k.before.before
 
-fields-of-requires : tie.Need-fields-of-requires
-fields-of-requires c κs = search rules
+fields_of-none-requires : tie.Need-fields_of-none-requires
+fields_of-none-requires c κs = search rules
 
-returns : tie.Need-returns
+returns-then-refusal-ne0 : tie.Need-returns-then-refusal-ne0
 unfolding info1c block framed fixed places fill sync rows
-returns c =
+returns-then-refusal-ne0 c =
     let k = asked c.before.before in
-    answer-refused _ _ _ k.read-sequence.ensures.number c.before.if1.true c.fields-of.ensures
+    answer-refused _ _ _ k.read_sequence-refusal.ensures.number c.if-refusal-ne0.true c.fields_of-none.ensures
 
-fields-of-requires-2 : tie.Need-fields-of-requires-2
-fields-of-requires-2 c κs = search rules
+fields_of-found-requires : tie.Need-fields_of-found-requires
+fields_of-found-requires c κs = search rules
 
-array-read-signed : tie.Need-array-read-signed
-array-read-signed c = search rules
+bounds-numbers-21 : tie.Need-bounds-numbers-21
+bounds-numbers-21 c = search rules
 
 -- what was received
-abbrev given : tie.After-read-sequence → List ℕ
-given k = k.before.before.before.before.before.before.args.bits.now
+abbrev given : tie.After-read_sequence-refusal → List ℕ
+given k = k.args.bits.now
 
 -- it was accepted
-accepted : (c : tie.Else1) → fields_refusal info1c (given (asked c.before)) ≡ 0
+accepted : (c : tie.Else-refusal-ne0) → fields_refusal info1c (given (asked c.before)) ≡ 0
 unfolding info1c block framed fixed places fill sync rows
-accepted c = sym (asked c.before).read-sequence.ensures.number ∙ c.if1.false
+accepted c = sym (asked c.before).read_sequence-refusal.ensures.number ∙ c.if-refusal-ne0.false
 
-signed-requires : tie.Need-signed-requires
+signed-count-requires : tie.Need-signed-count-requires
 unfolding info1c block rows
-signed-requires c κs =
+signed-count-requires c κs =
     let e = c.before in
     let k = asked e.before in
-    let same = k.read-sequence.ensures.fields e.if1.false in
+    let same = k.read_sequence-refusal.ensures.fields e.if-refusal-ne0.false in
     (omega arith, subst (λ (l : List ℕ). get_or l 21 0 < 1024) (sym same) (count_held _ (accepted e)))
 
-reading-of-requires : tie.Need-reading-of-requires
-reading-of-requires c κs = search rules
+reading_of-reading-requires : tie.Need-reading_of-reading-requires
+reading_of-reading-requires c κs = search rules
 
-returns-2 : tie.Need-returns-2
+returns : tie.Need-returns
 unfolding info1c block rows
-returns-2 c =
+returns c =
     let s = c.before in
     let f = s.before in
     let e = f.before in
     let k = asked e.before in
-    let same = to_z-of_z w32 s.signed.result (record { sfits = s.signed.type-inv }) in
+    let same = to_z-of_z w32 s.signed-count.result (record { sfits = s.signed-count.type_inv }) in
     rw same
-    (answer-read _ _ _ _ _ (accepted e) (k.read-sequence.ensures.fields e.if1.false) f.fields-of2.ensures s.signed.ensures
-    (c.reading-of.ensures ∙ ap reading_of same))
+    (answer-read _ _ _ _ _ (accepted e) (k.read_sequence-refusal.ensures.fields e.if-refusal-ne0.false) f.fields_of-found.ensures s.signed-count.ensures
+    (c.reading_of-reading.ensures ∙ ap reading_of same))
 
 pub read_spec : {M : Type 1} → statement M
 read_spec =
     tie.close
     (tie.spec
-    slice-aggregate-read-sequence
-    slice-aggregate-read-sequence-2
-    slice-aggregate-read-sequence-3
-    slice-aggregate-read-sequence-4
-    read-sequence-requires
-    fields-of-requires
-    returns
-    fields-of-requires-2
-    array-read-signed
-    signed-requires
-    reading-of-requires
-    returns-2)
+    slice_bounds-read_sequence-end-3
+    slice_bounds-read_sequence-end-4
+    read_sequence-refusal-requires
+    fields_of-none-requires
+    returns-then-refusal-ne0
+    fields_of-found-requires
+    bounds-numbers-21
+    signed-count-requires
+    reading_of-reading-requires
+    returns)

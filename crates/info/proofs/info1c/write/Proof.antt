@@ -17,60 +17,42 @@ use Rattle.info.specs.Info1c.{block, info1c, numbers_of}
 use Rattle.info.proofs.info1c.write.Statement.{statement}
 use Rattle.info.proofs.info1c.write.Tie as tie
 
--- the count, which the machine holds in 32 bits
-same : (c : tie.Start) → to_z w32 (of_z w32 c.args.count) ≡ c.args.count
-same c = to_z-of_z w32 c.args.count c.ranges.count
-
 unsigned-requires : tie.Need-unsigned-requires
 unsigned-requires c κs = search rules
 
-numbers-of-requires : tie.Need-numbers-of-requires
-numbers-of-requires c κs = search rules
+numbers_of-numbers-requires : tie.Need-numbers_of-numbers-requires
+numbers_of-numbers-requires c κs = search rules
 
-slice-aggregate-write-sequence : tie.Need-slice-aggregate-write-sequence
-slice-aggregate-write-sequence c = search rules
+slice_bounds-write_sequence-end-3 : tie.Need-slice_bounds-write_sequence-end-3
+slice_bounds-write_sequence-end-3 c = search rules
 
-slice-aggregate-write-sequence-2 : tie.Need-slice-aggregate-write-sequence-2
-slice-aggregate-write-sequence-2 c = search rules
+slice_bounds-write_sequence-end-4 : tie.Need-slice_bounds-write_sequence-end-4
+slice_bounds-write_sequence-end-4 c = search rules
 
-slice-aggregate-write-sequence-3 : tie.Need-slice-aggregate-write-sequence-3
-slice-aggregate-write-sequence-3 c = search rules
-
-slice-aggregate-write-sequence-4 : tie.Need-slice-aggregate-write-sequence-4
-slice-aggregate-write-sequence-4 c = search rules
-
--- the numbers of the fields, from where the sequence of them is written
-abbrev numbered : tie.After-write-sequence-arg3 → tie.After-numbers-of
-numbered k = k.before.before.before.before.before
-
-write-sequence-requires : tie.Need-write-sequence-requires
+write_sequence-requires : tie.Need-write_sequence-requires
 unfolding is_whole is_narrow is_laid free bit_count rows
-write-sequence-requires c κs =
-    record { whole = refl; narrow = refl; count = sym (ap length (numbered c).Numbers-of.ensures); room = refl }
+write_sequence-requires c κs =
+    record { whole = refl; narrow = refl; count = sym (ap length c.numbers_of-numbers.ensures); room = refl }
 
-same_length : tie.Need-same-length
-same_length c = search rules
+shape_of-lent : tie.Need-shape_of-lent
+shape_of-lent c = search rules
 
 returns : tie.Need-returns
 unfolding info1c block framed fixed places fill sync rows
 returns c =
-    let k = c.before.before.before in
-    let n = numbered k.before in
-    let u = n.before in
-    let start = u.before.before in
-    let is = ap (numbers_of start.args.fields) (u.unsigned.ensures ∙ ap (unsigned 512) (same start)) in
-    answer_same info1c _ _ _ _ _ (n.Numbers-of.ensures ∙ is) k.write-sequence.ensures
+    -- the count, which the machine holds in 32 bits
+    let same = to_z-of_z w32 c.args.count c.ranges.count in
+    let is = ap (numbers_of c.args.fields) (c.unsigned.ensures ∙ ap (unsigned 512) same) in
+    answer_same info1c _ _ _ _ _ (c.numbers_of-numbers.ensures ∙ is) c.write_sequence.ensures
 
 pub write_spec : {M : Type 1} → statement M
 write_spec =
     tie.close
     (tie.spec
     unsigned-requires
-    numbers-of-requires
-    slice-aggregate-write-sequence
-    slice-aggregate-write-sequence-2
-    slice-aggregate-write-sequence-3
-    slice-aggregate-write-sequence-4
-    write-sequence-requires
-    same_length
+    numbers_of-numbers-requires
+    slice_bounds-write_sequence-end-3
+    slice_bounds-write_sequence-end-4
+    write_sequence-requires
+    shape_of-lent
     returns)

@@ -14,13 +14,13 @@ literal : of_bits binary64 4679240012837945344 ≡ of_int binary64 (pos 65536)
 unfolding of_bits of_fields of_int round size span climb units odd
 literal = refl
 
-int-to-float-result : tie.Need-int-to-float-result
+int_to_float-result : tie.Need-int_to_float-result
 unfolding in_float
-int-to-float-result c = le→leb c.before.args.fraction (2 ^ 53) (omega (arith, c.before.requires))
+int_to_float-result c = le→leb c.args.fraction (2 ^ 53) (omega (arith, c.requires))
 
 returns : tie.Need-returns
 unfolding part_of
 returns c = rw literal
 
 pub part_of_spec : {M : Type 1} → statement M
-part_of_spec = tie.close (tie.spec int-to-float-result returns)
+part_of_spec = tie.close (tie.spec int_to_float-result returns)

@@ -12,48 +12,35 @@ use Rattle.jp.specs.Jp.{start_and_sixteen, jp}
 use Rattle.jp.proofs.sequence.write.Statement.{statement}
 use Rattle.jp.proofs.sequence.write.Tie as tie
 
-numbers-of-requires : tie.Need-numbers-of-requires
-numbers-of-requires c κs = search rules
+numbers_of-numbers-requires : tie.Need-numbers_of-numbers-requires
+numbers_of-numbers-requires c κs = search rules
 
-slice-aggregate-write-sequence : tie.Need-slice-aggregate-write-sequence
-slice-aggregate-write-sequence c = search rules
+slice_bounds-write_sequence-end-3 : tie.Need-slice_bounds-write_sequence-end-3
+slice_bounds-write_sequence-end-3 c = search rules
 
-slice-aggregate-write-sequence-2 : tie.Need-slice-aggregate-write-sequence-2
-slice-aggregate-write-sequence-2 c = search rules
+slice_bounds-write_sequence-end-4 : tie.Need-slice_bounds-write_sequence-end-4
+slice_bounds-write_sequence-end-4 c = search rules
 
-slice-aggregate-write-sequence-3 : tie.Need-slice-aggregate-write-sequence-3
-slice-aggregate-write-sequence-3 c = search rules
-
-slice-aggregate-write-sequence-4 : tie.Need-slice-aggregate-write-sequence-4
-slice-aggregate-write-sequence-4 c = search rules
-
--- the numbers of the fields, from where the sequence of them is written
-abbrev numbered : tie.After-write-sequence-arg3 → tie.After-numbers-of
-numbered k = k.before.before.before.before.before
-
-write-sequence-requires : tie.Need-write-sequence-requires
+write_sequence-requires : tie.Need-write_sequence-requires
 unfolding is_whole is_narrow is_laid free bit_count rows
-write-sequence-requires c κs =
-    record { whole = refl; narrow = refl; count = sym (ap length (numbered c).Numbers-of.ensures); room = refl }
+write_sequence-requires c κs =
+    record { whole = refl; narrow = refl; count = sym (ap length c.numbers_of-numbers.ensures); room = refl }
 
-same_length : tie.Need-same-length
-same_length c = search rules
+shape_of-lent : tie.Need-shape_of-lent
+shape_of-lent c = search rules
 
 returns : tie.Need-returns
 unfolding jp start_and_sixteen fixed places rows
 returns c =
-    let k = c.before.before.before in
-    answer_same jp _ _ _ _ _ (numbered k.before).Numbers-of.ensures k.write-sequence.ensures
+    answer_same jp _ _ _ _ _ c.numbers_of-numbers.ensures c.write_sequence.ensures
 
 pub write_spec : {M : Type 1} → statement M
 write_spec =
     tie.close
     (tie.spec
-    numbers-of-requires
-    slice-aggregate-write-sequence
-    slice-aggregate-write-sequence-2
-    slice-aggregate-write-sequence-3
-    slice-aggregate-write-sequence-4
-    write-sequence-requires
-    same_length
+    numbers_of-numbers-requires
+    slice_bounds-write_sequence-end-3
+    slice_bounds-write_sequence-end-4
+    write_sequence-requires
+    shape_of-lent
     returns)

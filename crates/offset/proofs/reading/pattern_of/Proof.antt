@@ -10,13 +10,13 @@ enum_known-reading : tie.Need-enum_known-reading
 enum_known-reading c = search rules
 
 float_to_bits-result : tie.Need-float_to_bits-result
-float_to_bits-result c = subst NoNan c.before.reading-1.given.1 c.before.before.before.requires
+float_to_bits-result c = subst NoNan c.in-Hertz.is c.before.requires
 
 enum_told-1 : tie.Need-enum_told-1
 enum_told-1 c = search rules
 
 returns-in-Hertz : tie.Need-returns-in-Hertz
-returns-in-Hertz c = sym (ap pattern_of c.before.reading-1.given.1)
+returns-in-Hertz c = sym (ap pattern_of c.in-Hertz.is)
 
 returns-in-Blank : tie.Need-returns-in-Blank
 returns-in-Blank c = search rules

@@ -82,7 +82,7 @@ unfolding count_in10
 written k =
     let fields = k.before.before.fields-of.ensures in
     let count = (counted k).signed.ensures in
-    let same = to_z-of_z w32 (counted k).signed.result (record { sfits = (counted k).signed.type-inv }) in
+    let same = to_z-of_z w32 (counted k).signed.result (record { sfits = (counted k).signed.type_inv }) in
     answer_same info1c _ _ _ _ _
     (ap₂ (λ (f : Info1c) (z : ℤ). numbers_of f (unsigned 512 z)) fields (same ∙ count)
     ∙ ap (λ (l : List ℕ). numbers_of (fields_of l) (unsigned 512 (from32 (get_or l 21 0)))) (taken k).take_words.ensures)
