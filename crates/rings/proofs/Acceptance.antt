@@ -1,6 +1,6 @@
 -- Which calls the two entries answer with 0, in both directions (document 01, "What comes back"):
---     mapper-accepts    a permitted K and M, a slice of eight bytes, and a number below 2^K
---     ranker-accepts    a permitted K and M, and eight rings below M before which fewer than 2^K sets stand
+--     mapper_accepts    a permitted K and M, a slice of eight bytes, and a number below 2^K
+--     ranker_accepts    a permitted K and M, and eight rings below M before which fewer than 2^K sets stand
 -- Assumes nothing.
 use mathlib.Core.List.{List}
 use mathlib.Core.Logic.{◌↔◌}

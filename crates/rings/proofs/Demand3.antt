@@ -1,8 +1,8 @@
 -- Demand 3, over the definitions that the entries' contracts name. First in document 01's own words, by how many sets of all below M stand
 -- before a set, and then each entry undone by the other. K and M are permitted, and x is a set of rings below M.
---     maps-by-standing       for S < 2^K the mapping is done, and the mapper's set is x exactly when S sets stand before x
---     ranks-by-standing      the ranker gives S for x exactly when S sets stand before x and S < 2^K
---     refuses-by-standing    the ranker refuses x with 11 exactly when 2^K sets or more stand before x
+--     maps_by_standing       for S < 2^K the mapping is done, and the mapper's set is x exactly when S sets stand before x
+--     ranks_by_standing      the ranker gives S for x exactly when S sets stand before x and S < 2^K
+--     refuses_by_standing    the ranker refuses x with 11 exactly when 2^K sets or more stand before x
 --     mapped                 for S < 2^K: the mapping is done, S sets stand before the mapper's set, and the ranker gives S
 --     ranked                 for a set that the ranker accepts: its number is below 2^K, and the mapper gives the set back for it
 --     refused                a set before which 2^K sets or more stand is refused with 11

@@ -1,6 +1,6 @@
 -- The cases that document 01 marks as proved, by two theorems over their list.
 --     starred             the number gives the rings and the rings have the number, by the definitions; as many sets stand before them
---     starred-answered    with the case's K: the mapper answers 0 and the rings, the ranker 0 and the number
+--     starred_answered    with the case's K: the mapper answers 0 and the rings, the ranker 0 and the number
 -- That K and M are permitted and S is below 2^K is computed from the list. Assumes nothing.
 use mathlib.Core.Bool.{Bool, true, ◌&&◌}
 use mathlib.Core.List.{List, [], ◌∷◌}

@@ -6,6 +6,7 @@
 // for an M, and finds places among these counts. `rings_of` and `number_of` go by them, for many numbers of one M; `map` and `rank` are
 // thin over the two.
 #![tactic(auto)]
+
 pub mod check;
 pub mod entry;
 pub mod four;

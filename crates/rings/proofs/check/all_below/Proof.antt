@@ -9,51 +9,51 @@ use Rattle.rings.proofs.Tests.{below_fails, below-passes, below_none}
 use Rattle.rings.proofs.check.all_below.Statement.{statement}
 use Rattle.rings.proofs.check.all_below.Tie as tie
 
-abbrev invariant-loop : tie.invariant-loop
-invariant-loop m rings i₀ i = (i ≤ length rings) × (all_below m (drop i rings) ≡ all_below m rings)
+abbrev invariant-loop-i : tie.invariant-loop-i
+invariant-loop-i m rings i₀ i = (i ≤ length rings) × (all_below m (drop i rings) ≡ all_below m rings)
 
-abbrev decreases-loop : tie.decreases-loop
-decreases-loop m rings i₀ i = length rings - i
+abbrev decreases-loop-i : tie.decreases-loop-i
+decreases-loop-i m rings i₀ i = length rings - i
 
-loop-holds : tie.Need-loop-init invariant-loop decreases-loop
-loop-holds c = (omega arith, refl)
+loop-i-init : tie.Need-loop-i-init invariant-loop-i decreases-loop-i
+loop-i-init c = (omega arith, refl)
 
-shared-slice-read-if1 : tie.Need-shared-slice-read-if1 invariant-loop decreases-loop
-shared-slice-read-if1 c = omega arith
+bounds-rings-i : tie.Need-bounds-rings-i invariant-loop-i decreases-loop-i
+bounds-rings-i c = omega arith
 
-cast-if1 : tie.Need-overflow-cast-if1 invariant-loop decreases-loop
-cast-if1 c = omega (arith, c.shared-slice-known.given c.before.before.loop.i)
+overflow_cast-rings : tie.Need-overflow_cast-rings invariant-loop-i decreases-loop-i
+overflow_cast-rings c = omega (arith, c.shared_slice_known-1.given c.before.before.loop-i.i)
 
-returns : tie.Need-returns invariant-loop decreases-loop
-returns c =
+returns-then-rings-i : tie.Need-returns-then-rings-i invariant-loop-i decreases-loop-i
+returns-then-rings-i c =
     let k = c.before.before in
-    sym (below_fails _ _ _ k.loop-test.true c.if1.true) ∙ k.before.loop.invariant.1
+    sym (below_fails _ _ _ k.loop-i-test.true c.if-rings-i.true) ∙ k.before.loop-i.invariant.1
 
-add-i : tie.Need-overflow-add-i invariant-loop decreases-loop
-add-i c = omega arith
+overflow_add-i : tie.Need-overflow_add-i invariant-loop-i decreases-loop-i
+overflow_add-i c = omega arith
 
-loop-less : tie.Need-loop-smaller invariant-loop decreases-loop
-loop-less c = omega arith
+loop-i-smaller : tie.Need-loop-i-smaller invariant-loop-i decreases-loop-i
+loop-i-smaller c = omega arith
 
-loop-again : tie.Need-loop-preserved invariant-loop decreases-loop
-loop-again c =
+loop-i-preserved : tie.Need-loop-i-preserved invariant-loop-i decreases-loop-i
+loop-i-preserved c =
     let k = c.before.before in
-    (omega arith, sym (below-passes _ _ _ k.loop-test.true c.if1.false) ∙ k.before.loop.invariant.1)
+    (omega arith, sym (below-passes _ _ _ k.loop-i-test.true c.if-rings-i.false) ∙ k.before.loop-i.invariant.1)
 
-returns-2 : tie.Need-returns-2 invariant-loop decreases-loop
-returns-2 c = sym (below_none _ _ _ c.loop-test.false) ∙ c.before.loop.invariant.1
+returns : tie.Need-returns invariant-loop-i decreases-loop-i
+returns c = sym (below_none _ _ _ c.loop-i-test.false) ∙ c.before.loop-i.invariant.1
 
 pub all_below_spec : {M : Type 1} → statement M
 all_below_spec =
     tie.close
     (tie.spec
-    invariant-loop
-    decreases-loop
-    loop-holds
-    shared-slice-read-if1
-    cast-if1
-    returns
-    add-i
-    loop-less
-    loop-again
-    returns-2)
+    invariant-loop-i
+    decreases-loop-i
+    loop-i-init
+    bounds-rings-i
+    overflow_cast-rings
+    returns-then-rings-i
+    overflow_add-i
+    loop-i-smaller
+    loop-i-preserved
+    returns)

@@ -8,32 +8,32 @@ use borrow.Author.Rules.{rules}
 use Rattle.rings.proofs.check.is_permitted.Statement.{statement}
 use Rattle.rings.proofs.check.is_permitted.Tie as tie
 
+returns-then-k-gt31 : tie.Need-returns-then-k-gt31
+unfolding permitted
+returns-then-k-gt31 c = rw (lt-leb _ _ c.if-k-gt31.true)
+
+returns-then-m-lt1 : tie.Need-returns-then-m-lt1
+unfolding permitted
+returns-then-m-lt1 c = rw (le-leb _ _ c.before.if-k-gt31.false, lt-leb _ _ c.if-m-lt1.true)
+
+returns-then-m-gt18 : tie.Need-returns-then-m-gt18
+unfolding permitted
+returns-then-m-gt18 c = rw (le-leb _ _ c.before.before.if-k-gt31.false, le-leb _ _ c.before.if-m-lt1.false, lt-leb _ _ c.if-m-gt18.true)
+
+overflow_shl-result : tie.Need-overflow_shl-result
+overflow_shl-result c = search rules
+
+eighth_power-requires : tie.Need-eighth_power-requires
+eighth_power-requires c κs = search rules
+
 returns : tie.Need-returns
 unfolding permitted
-returns c = rw (lt-leb _ _ c.if1.true)
-
-returns-2 : tie.Need-returns-2
-unfolding permitted
-returns-2 c = rw (le-leb _ _ c.before.if1.false, lt-leb _ _ c.if2.true)
-
-returns-3 : tie.Need-returns-3
-unfolding permitted
-returns-3 c = rw (le-leb _ _ c.before.before.if1.false, le-leb _ _ c.before.if2.false, lt-leb _ _ c.if3.true)
-
-shl-result : tie.Need-overflow-shl-result
-shl-result c = search rules
-
-eighth-power-requires : tie.Need-eighth-power-requires
-eighth-power-requires c κs = search rules
-
-returns-4 : tie.Need-returns-4
-unfolding permitted
-returns-4 c =
+returns c =
     let k = c.before in
     let few : k.before.before.before.args.k < 64 = omega arith in
-    rw (le-leb _ _ k.before.before.if1.false, le-leb _ _ k.before.if2.false, le-leb _ _ k.if3.false)
-    (rw (c.eighth-power.ensures, shifted_one _ few))
+    rw (le-leb _ _ k.before.before.if-k-gt31.false, le-leb _ _ k.before.if-m-lt1.false, le-leb _ _ k.if-m-gt18.false)
+    (rw (c.eighth_power.ensures, shifted_one _ few))
 
 pub is_permitted_spec : {M : Type 1} → statement M
 is_permitted_spec =
-    tie.close (tie.spec returns returns-2 returns-3 shl-result eighth-power-requires returns-4)
+    tie.close (tie.spec returns-then-k-gt31 returns-then-m-lt1 returns-then-m-gt18 overflow_shl-result eighth_power-requires returns)

@@ -8,39 +8,39 @@ use Rattle.rings.specs.Mapping.{permitted}
 use Rattle.rings.proofs.check.rank_tested.Statement.{statement}
 use Rattle.rings.proofs.check.rank_tested.Tie as tie
 
-is-permitted-requires : tie.Need-is-permitted-requires
-is-permitted-requires c κs = search rules
+is_permitted-requires : tie.Need-is_permitted-requires
+is_permitted-requires c κs = search rules
 
-returns : tie.Need-returns
+returns-then-not-is_permitted : tie.Need-returns-then-not-is_permitted
 unfolding refusal
-returns c = rw (rw c.before.is_permitted.ensures at c.if1.true)
+returns-then-not-is_permitted c = rw (rw c.before.is_permitted.ensures at c.if-not-is_permitted.true)
 
 -- after the first test K and M are permitted
 allowed :
-    (c : tie.Else1)
+    (c : tie.Else-not-is_permitted)
     → permitted c.before.before.before.args.k c.before.before.before.args.m ≡ true
-allowed c = sym c.before.is_permitted.ensures ∙ not-false _ c.if1.false
+allowed c = sym c.before.is_permitted.ensures ∙ c.if-not-is_permitted.false
 
-returns-2 : tie.Need-returns-2
+returns-then-rings-ne8 : tie.Need-returns-then-rings-ne8
 unfolding refusal
-returns-2 c = rw (allowed c.before, ne_eqb _ _ c.if2.true)
+returns-then-rings-ne8 c = rw (allowed c.before, ne_eqb _ _ c.if-rings-ne8.true)
 
-all-below-requires : tie.Need-all-below-requires
-all-below-requires c κs = search rules
+all_below-requires : tie.Need-all_below-requires
+all_below-requires c κs = search rules
 
-returns-3 : tie.Need-returns-3
+returns-then-not-all_below : tie.Need-returns-then-not-all_below
 unfolding refusal
-returns-3 c =
+returns-then-not-all_below c =
     let k = c.before.before in
-    rw (allowed k.before, eq-eqb _ _ k.if2.false, rw c.before.all-below.ensures at c.if3.true)
+    rw (allowed k.before, eq-eqb _ _ k.if-rings-ne8.false, rw c.before.all_below.ensures at c.if-not-all_below.true)
 
-returns-4 : tie.Need-returns-4
+returns : tie.Need-returns
 unfolding refusal
-returns-4 c =
+returns c =
     let k = c.before.before in
-    rw (allowed k.before, eq-eqb _ _ k.if2.false, rw c.before.all-below.ensures at c.if3.false)
+    rw (allowed k.before, eq-eqb _ _ k.if-rings-ne8.false, rw c.before.all_below.ensures at c.if-not-all_below.false)
 
 pub rank_tested_spec : {M : Type 1} → statement M
 rank_tested_spec =
     tie.close
-    (tie.spec is-permitted-requires returns returns-2 all-below-requires returns-3 returns-4)
+    (tie.spec is_permitted-requires returns-then-not-is_permitted returns-then-rings-ne8 all_below-requires returns-then-not-all_below returns)

@@ -5,32 +5,32 @@ use Rattle.rings.proofs.Tests.{as_list-of_list}
 use Rattle.rings.proofs.entry.load.Statement.{statement}
 use Rattle.rings.proofs.entry.load.Tie as tie
 
-shared-slice-read-t3 : tie.Need-shared-slice-read-t3
-shared-slice-read-t3 c = search rules
+bounds-rings-0 : tie.Need-bounds-rings-0
+bounds-rings-0 c = search rules
 
-shared-slice-read-t5 : tie.Need-shared-slice-read-t5
-shared-slice-read-t5 c = search rules
+bounds-rings-1 : tie.Need-bounds-rings-1
+bounds-rings-1 c = search rules
 
-shared-slice-read-t7 : tie.Need-shared-slice-read-t7
-shared-slice-read-t7 c = search rules
+bounds-rings-2 : tie.Need-bounds-rings-2
+bounds-rings-2 c = search rules
 
-shared-slice-read-t9 : tie.Need-shared-slice-read-t9
-shared-slice-read-t9 c = search rules
+bounds-rings-3 : tie.Need-bounds-rings-3
+bounds-rings-3 c = search rules
 
-shared-slice-read-t11 : tie.Need-shared-slice-read-t11
-shared-slice-read-t11 c = search rules
+bounds-rings-4 : tie.Need-bounds-rings-4
+bounds-rings-4 c = search rules
 
-shared-slice-read-t13 : tie.Need-shared-slice-read-t13
-shared-slice-read-t13 c = search rules
+bounds-rings-5 : tie.Need-bounds-rings-5
+bounds-rings-5 c = search rules
 
-shared-slice-read-t15 : tie.Need-shared-slice-read-t15
-shared-slice-read-t15 c = search rules
+bounds-rings-6 : tie.Need-bounds-rings-6
+bounds-rings-6 c = search rules
 
-shared-slice-read-t17 : tie.Need-shared-slice-read-t17
-shared-slice-read-t17 c = search rules
+bounds-rings-7 : tie.Need-bounds-rings-7
+bounds-rings-7 c = search rules
 
 -- the call, seen from its end
-abbrev begun : tie.After-shared-slice-known8 → tie.Start
+abbrev begun : tie.After-shared_slice_known-8-1 → tie.Start
 begun c = c.before.before.before.before.before.before.before.before
 
 returns : tie.Need-returns
@@ -41,12 +41,12 @@ pub load_spec : {M : Type 1} → statement M
 load_spec =
     tie.close
     (tie.spec
-    shared-slice-read-t3
-    shared-slice-read-t5
-    shared-slice-read-t7
-    shared-slice-read-t9
-    shared-slice-read-t11
-    shared-slice-read-t13
-    shared-slice-read-t15
-    shared-slice-read-t17
+    bounds-rings-0
+    bounds-rings-1
+    bounds-rings-2
+    bounds-rings-3
+    bounds-rings-4
+    bounds-rings-5
+    bounds-rings-6
+    bounds-rings-7
     returns)

@@ -24,31 +24,31 @@ next out ring i h l e =
 whole : (out ring : List ℕ) (i : ℕ) → length out ≤ i → length ring ≤ i → take i out ≡ take i ring → out ≡ ring
 whole out ring i h l e = sym (take_all i out h) ∙ e ∙ take_all i ring l
 
-abbrev invariant-loop : tie.invariant-loop
-invariant-loop out₀ ring i₀ out i =
+abbrev invariant-loop-i : tie.invariant-loop-i
+invariant-loop-i out₀ ring i₀ out i =
     (i ≤ 8) × (length out ≡ 8) × (length ring ≡ 8) × (take i out ≡ take i ring)
 
-abbrev decreases-loop : tie.decreases-loop
-decreases-loop out₀ ring i₀ out i = 8 - i
+abbrev decreases-loop-i : tie.decreases-loop-i
+decreases-loop-i out₀ ring i₀ out i = 8 - i
 
-loop-holds : tie.Need-loop-init invariant-loop decreases-loop
-loop-holds c = (omega arith, c.before.requires.0, c.before.requires.1, refl)
+loop-i-init : tie.Need-loop-i-init invariant-loop-i decreases-loop-i
+loop-i-init c = (omega arith, c.before.requires.0, c.before.requires.1, refl)
 
-array-read-out : tie.Need-array-read-out invariant-loop decreases-loop
-array-read-out c = omega arith
+bounds-ring-i : tie.Need-bounds-ring-i invariant-loop-i decreases-loop-i
+bounds-ring-i c = omega arith
 
-slice-write-out : tie.Need-slice-write-out invariant-loop decreases-loop
-slice-write-out c = omega arith
+bounds-out-i : tie.Need-bounds-out-i invariant-loop-i decreases-loop-i
+bounds-out-i c = omega arith
 
-add-i : tie.Need-overflow-add-i invariant-loop decreases-loop
-add-i c = omega arith
+overflow_add-i : tie.Need-overflow_add-i invariant-loop-i decreases-loop-i
+overflow_add-i c = omega arith
 
-loop-less : tie.Need-loop-smaller invariant-loop decreases-loop
-loop-less c = omega arith
+loop-i-smaller : tie.Need-loop-i-smaller invariant-loop-i decreases-loop-i
+loop-i-smaller c = omega arith
 
-loop-again : tie.Need-loop-preserved invariant-loop decreases-loop
-loop-again c =
-    let l = c.before.loop in
+loop-i-preserved : tie.Need-loop-i-preserved invariant-loop-i decreases-loop-i
+loop-i-preserved c =
+    let l = c.before.loop-i in
     let ring = c.before.before.before.args.x.ring in (
       omega arith,
       length-set l.out l.i _ ∙ l.invariant.1,
@@ -56,23 +56,23 @@ loop-again c =
       next l.out ring l.i (omega arith) (omega arith) l.invariant.3,
     )
 
-same_length : tie.Need-same-length invariant-loop decreases-loop
-same_length c = omega arith
+shape_of-out : tie.Need-shape_of-out invariant-loop-i decreases-loop-i
+shape_of-out c = omega arith
 
-returns : tie.Need-returns invariant-loop decreases-loop
-returns c = let l = c.before.loop in whole l.out _ l.i (omega arith) (omega arith) l.invariant.3
+returns : tie.Need-returns invariant-loop-i decreases-loop-i
+returns c = let l = c.before.loop-i in whole l.out _ l.i (omega arith) (omega arith) l.invariant.3
 
 pub store_spec : {M : Type 1} → statement M
 store_spec =
     tie.close
     (tie.spec
-    invariant-loop
-    decreases-loop
-    loop-holds
-    array-read-out
-    slice-write-out
-    add-i
-    loop-less
-    loop-again
-    same_length
+    invariant-loop-i
+    decreases-loop-i
+    loop-i-init
+    bounds-ring-i
+    bounds-out-i
+    overflow_add-i
+    loop-i-smaller
+    loop-i-preserved
+    shape_of-out
     returns)

@@ -14,80 +14,80 @@ four s = let a = s.args in ((a.m1, a.m2), (a.m3, a.m4))
 small : (s : tie.Start) → Below4 18 (four s)
 small s = let below = s.requires.1.1 in let high = s.requires.0.high in omega arith
 
-add-c : tie.Need-overflow-add-c
-add-c c = omega (arith, small c)
+overflow_add-c : tie.Need-overflow_add-c
+overflow_add-c c = omega (arith, small c)
 
-add-t : tie.Need-overflow-add-t
-add-t c = omega (arith, small c)
+overflow_add-t : tie.Need-overflow_add-t
+overflow_add-t c = omega (arith, small c)
 
-add-t-2 : tie.Need-overflow-add-t-2
-add-t-2 c = omega (arith, small c)
+overflow_add-t-2 : tie.Need-overflow_add-t-2
+overflow_add-t-2 c = omega (arith, small c)
 
-place-of-pair-requires : tie.Need-place-of-pair-requires
-place-of-pair-requires c κs = (c.requires.0, c.requires.1.1.0)
+place_of_pair-first-requires : tie.Need-place_of_pair-first-requires
+place_of_pair-first-requires c κs = (c.requires.0, c.requires.1.1.0)
 
-place-of-pair-requires-2 : tie.Need-place-of-pair-requires-2
-place-of-pair-requires-2 c κs = let pre = c.before.requires in (pre.0, pre.1.1.1)
+place_of_pair-second-requires : tie.Need-place_of_pair-second-requires
+place_of_pair-second-requires c κs = let pre = c.before.requires in (pre.0, pre.1.1.1)
 
-lighter-sum-requires : tie.Need-lighter-sum-requires
-lighter-sum-requires c κs =
+lighter_sum-requires : tie.Need-lighter_sum-requires
+lighter_sum-requires c κs =
     let s = c.before.before.before in
-    summable _ (four s) _ s.requires.0 s.requires.1.0 c.lighter-sum-arg.given.0 s.requires.1.1
+    summable _ (four s) _ s.requires.0 s.requires.1.0 c.lighter_sum-arg-1.given s.requires.1.1
 
 -- the call, seen from where the fours before this one are summed
-abbrev begun : tie.After-lighter-sum → tie.Start
+abbrev begun : tie.After-lighter_sum → tie.Start
 begun c = c.before.before.before.before
 
-mul-result : tie.Need-overflow-mul-result
-mul-result c = omega (arith, small (begun c))
+offset_bounds-pairs-c : tie.Need-offset_bounds-pairs-c
+offset_bounds-pairs-c c = omega (arith, small (begun c))
 
-element-copy-out-result : tie.Need-element-copy-out-result
-element-copy-out-result c = omega (arith, small (begun c))
+bounds-pairs-c : tie.Need-bounds-pairs-c
+bounds-pairs-c c = omega (arith, small (begun c.before))
 
 -- the parts that are put together
 parts :
-    (c : tie.After-lighter-sum)
+    (c : tie.After-lighter_sum)
     → let p = c.before.before in
     let s = begun c in
     PlaceParts
     s.args.m
     (four s)
-    c.lighter-sum.result
-    (p.place-of-pair2.result * at s.args.pairs.now (weight2 (four s).0))
-    p.before.place-of-pair.result
+    c.lighter_sum.result
+    (p.place_of_pair-second.result * at s.args.pairs.now (weight2 (four s).0))
+    p.before.place_of_pair-first.result
 parts c =
     let p = c.before.before in
     let s = begun c in
-    place-parts _ (at s.args.pairs.now) (four s) _ _ _ s.pre.0 s.pre.1.0 s.pre.1.1
-    c.lighter-sum.ensures p.before.place-of-pair.ensures p.place-of-pair2.ensures
+    place-parts _ (at s.args.pairs.now) (four s) _ _ _ s.requires.0 s.requires.1.0 s.requires.1.1
+    c.lighter_sum.ensures p.before.place_of_pair-first.ensures p.place_of_pair-second.ensures
 
-mul-result-2 : tie.Need-overflow-mul-result-2
-mul-result-2 c = omega (arith, (parts c.before).product_small)
+overflow_mul-result : tie.Need-overflow_mul-result
+overflow_mul-result c = omega (arith, (parts c.before.before).product_small)
 
-add-result : tie.Need-overflow-add-result
-add-result c = omega (arith, (parts c.before).product_small, (parts c.before).first_small)
+overflow_add-result : tie.Need-overflow_add-result
+overflow_add-result c = omega (arith, (parts c.before.before).product_small, (parts c.before.before).first_small)
 
-add-result-2 : tie.Need-overflow-add-result-2
-add-result-2 c =
-    let p = parts c.before in
+overflow_add-result-2 : tie.Need-overflow_add-result-2
+overflow_add-result-2 c =
+    let p = parts c.before.before in
     omega (arith, p.sum-small, p.product_small, p.first_small)
 
 returns : tie.Need-returns
-returns c = (parts c.before).whole
+returns c = (parts c.before.before).whole
 
 pub place_of_four_spec : {M : Type 1} → statement M
 place_of_four_spec =
     tie.close
     (tie.spec
-    add-c
-    add-t
-    add-t-2
-    place-of-pair-requires
-    place-of-pair-requires-2
-    lighter-sum-requires
-    mul-result
-    element-copy-out-result
-    mul-result-2
-    add-result
-    add-result-2
+    overflow_add-c
+    overflow_add-t
+    overflow_add-t-2
+    place_of_pair-first-requires
+    place_of_pair-second-requires
+    lighter_sum-requires
+    offset_bounds-pairs-c
+    bounds-pairs-c
+    overflow_mul-result
+    overflow_add-result
+    overflow_add-result-2
     returns)

@@ -8,27 +8,27 @@ use Rattle.listing.specs.Number.{pair_at}
 use Rattle.rings.proofs.pair.pair_at.Statement.{statement}
 use Rattle.rings.proofs.pair.pair_at.Tie as tie
 
-sub-t6 : tie.Need-overflow-sub-t6
+overflow_sub-result : tie.Need-overflow_sub-result
 unfolding g2
-sub-t6 c = omega arith
+overflow_sub-result c = omega arith
+
+returns-then-t-m : tie.Need-returns-then-t-m
+unfolding pair_at
+returns-then-t-m c = rw (lt-ltb _ _ c.if-t-m.true)
+
+overflow_sub-second : tie.Need-overflow_sub-second
+overflow_sub-second c = search rules
+
+overflow_sub-second-2 : tie.Need-overflow_sub-second-2
+unfolding g2
+overflow_sub-second-2 c = omega arith
+
+overflow_sub-result-2 : tie.Need-overflow_sub-result-2
+overflow_sub-result-2 c = search rules
 
 returns : tie.Need-returns
 unfolding pair_at
-returns c = rw (lt-ltb _ _ c.if1.true)
-
-sub-second : tie.Need-overflow-sub-second
-sub-second c = search rules
-
-sub-second-2 : tie.Need-overflow-sub-second-2
-unfolding g2
-sub-second-2 c = omega arith
-
-sub-t7 : tie.Need-overflow-sub-t7
-sub-t7 c = search rules
-
-returns-2 : tie.Need-returns-2
-unfolding pair_at
-returns-2 c = rw (le-ltb _ _ c.if1.false)
+returns c = rw (le-ltb _ _ c.if-t-m.false)
 
 pub pair_at_spec : {M : Type 1} → statement M
-pair_at_spec = tie.close (tie.spec sub-t6 returns sub-second sub-second-2 sub-t7 returns-2)
+pair_at_spec = tie.close (tie.spec overflow_sub-result returns-then-t-m overflow_sub-second overflow_sub-second-2 overflow_sub-result-2 returns)
