@@ -52,8 +52,7 @@ fn numbers_of(coded: Coded) -> [u64; 8]
 }
 
 // The labels of a data frame's bits, two bytes each, low byte first, and the state that comes next.
-#[unsafe(no_mangle)]
-pub extern "C" fn ww_write(
+pub fn ww_write(
     role: u64,
     s: u64,
     n: u64,
@@ -81,8 +80,7 @@ pub extern "C" fn ww_write(
 }
 
 // The bits of a data frame's labels, and the state that comes next.
-#[unsafe(no_mangle)]
-pub extern "C" fn ww_read(
+pub fn ww_read(
     role: u64,
     s: u64,
     n: u64,

@@ -22,8 +22,7 @@ fn answer_numbers(heard: JpRead) -> [u64; 5]
 }
 
 // What a Jp sequence that was received says.
-#[unsafe(no_mangle)]
-pub extern "C" fn ww_jp_read(bits: &[u8], answer: &mut [u8]) -> u32
+pub fn ww_jp_read(bits: &[u8], answer: &mut [u8]) -> u32
     ensures { JpReadCall bits.now answer.old result answer.new }
 {
     if answer.len() != 20 {
@@ -38,13 +37,7 @@ pub extern "C" fn ww_jp_read(bits: &[u8], answer: &mut [u8]) -> u32
 }
 
 // The Jp sequence of a fraction and both sizes.
-#[unsafe(no_mangle)]
-pub extern "C" fn ww_jp_write(
-    fraction: u64,
-    training: u64,
-    renegotiation: u64,
-    bits: &mut [u8],
-) -> u32
+pub fn ww_jp_write(fraction: u64, training: u64, renegotiation: u64, bits: &mut [u8]) -> u32
     ensures { JpWriteCall fraction training renegotiation bits.old result bits.new }
 {
     let fields = Jp {

@@ -9,8 +9,7 @@ use offset::reading::{Reading, is_reading, pattern_of};
 use offset::signed::{signed, unsigned};
 
 // The fields of an INFO0 sequence that was received.
-#[unsafe(no_mangle)]
-pub extern "C" fn ww_info0_read(bits: &[u8], fields: &mut [u8]) -> u32
+pub fn ww_info0_read(bits: &[u8], fields: &mut [u8]) -> u32
     ensures { Info0ReadCall bits.now fields.old result fields.new }
 {
     if fields.len() != 56 {
@@ -26,8 +25,7 @@ pub extern "C" fn ww_info0_read(bits: &[u8], fields: &mut [u8]) -> u32
 }
 
 // The INFO0 sequence of some fields.
-#[unsafe(no_mangle)]
-pub extern "C" fn ww_info0_write(fields: &[u8], bits: &mut [u8]) -> u32
+pub fn ww_info0_write(fields: &[u8], bits: &mut [u8]) -> u32
     ensures { Info0WriteCall fields.now bits.old result bits.new }
 {
     if fields.len() != 56 {
@@ -48,8 +46,7 @@ fn reading_numbers(reading: Reading) -> [u64; 3]
 }
 
 // The line report of an INFO1c sequence that was received: the fields, the count in 32 bits, and the offset in hertz.
-#[unsafe(no_mangle)]
-pub extern "C" fn ww_info1c_read(bits: &[u8], report: &mut [u8]) -> u32
+pub fn ww_info1c_read(bits: &[u8], report: &mut [u8]) -> u32
     ensures { Info1cReadCall bits.now report.old result report.new }
 {
     if report.len() != 100 {
@@ -68,8 +65,7 @@ pub extern "C" fn ww_info1c_read(bits: &[u8], report: &mut [u8]) -> u32
 }
 
 // The INFO1c sequence of some fields, whose count comes in 32 bits.
-#[unsafe(no_mangle)]
-pub extern "C" fn ww_info1c_write(fields: &[u8], bits: &mut [u8]) -> u32
+pub fn ww_info1c_write(fields: &[u8], bits: &mut [u8]) -> u32
     ensures { Info1cWriteCall fields.now bits.old result bits.new }
 {
     if fields.len() != 88 {

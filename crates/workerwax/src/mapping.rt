@@ -7,8 +7,7 @@ ghost use Rattle.workerwax.specs.Lending.{shown_rings};
 use crate::layout::{narrow, put_word};
 
 // Eight rings for a number.
-#[unsafe(no_mangle)]
-pub extern "C" fn ww_map(k: u64, m: u64, number: u64, rings: &mut [u8]) -> u32
+pub fn ww_map(k: u64, m: u64, number: u64, rings: &mut [u8]) -> u32
     ensures { MapAnswer k m number rings.old result rings.new }
 {
     narrow(rings::map(k, m, number, rings))
@@ -26,8 +25,7 @@ fn shown_rings(rings: usize, answer: usize) -> usize
 }
 
 // The number of eight rings, into four bytes.
-#[unsafe(no_mangle)]
-pub extern "C" fn ww_rank(k: u64, m: u64, rings: &[u8], answer: &mut [u8]) -> u32
+pub fn ww_rank(k: u64, m: u64, rings: &[u8], answer: &mut [u8]) -> u32
     ensures { RankCall k m rings.now answer.old result answer.new }
 {
     let shown = shown_rings(rings.len(), answer.len());

@@ -11,15 +11,7 @@ use coder::{Started, State};
 use line::Worked;
 
 // N P b r K q M L of the settings that are asked for.
-#[unsafe(no_mangle)]
-pub extern "C" fn ww_parameters(
-    role: u64,
-    s: u64,
-    n: u64,
-    shaping: u64,
-    mark: u64,
-    answer: &mut [u8],
-) -> u32
+pub fn ww_parameters(role: u64, s: u64, n: u64, shaping: u64, mark: u64, answer: &mut [u8]) -> u32
     ensures { ParametersCall (worked_of (asked role s n shaping mark)) answer.old result answer.new }
 {
     let asked = asked_of(role, s, n, shaping, mark);
@@ -67,8 +59,7 @@ fn answer_start(begun: Started, answer: &mut [u8]) -> u32
 }
 
 // A line at its start, with the register and Z that it is given.
-#[unsafe(no_mangle)]
-pub extern "C" fn ww_start(
+pub fn ww_start(
     role: u64,
     s: u64,
     n: u64,
@@ -86,8 +77,7 @@ pub extern "C" fn ww_start(
 }
 
 // A line at its start, with shaping 0, register 0 and Z 0.
-#[unsafe(no_mangle)]
-pub extern "C" fn ww_short_start(role: u64, s: u64, n: u64, mark: u64, answer: &mut [u8]) -> u32
+pub fn ww_short_start(role: u64, s: u64, n: u64, mark: u64, answer: &mut [u8]) -> u32
     ensures { StartCall (short_started_of role s n mark) answer.old result answer.new }
 {
     let begun = coder::short_start(role, s, n, mark);
