@@ -7,6 +7,7 @@
 // How does it work? The shape says how many bits of a frame go where. The symbols go one after the other, with Z carried on. Which
 // rings a number has is not asked here: the caller maps and ranks.
 #![tactic(auto)]
+
 pub mod check;
 pub mod next;
 pub mod read;

@@ -14,81 +14,81 @@ use Rattle.frame.proofs.Sixteen.{range-next, range_none}
 use Rattle.frame.proofs.check.in_range.Statement.{statement}
 use Rattle.frame.proofs.check.in_range.Tie as tie
 
-abbrev invariant-loop : tie.invariant-loop
-invariant-loop m q labels top j₀ j =
+abbrev invariant-loop-j : tie.invariant-loop-j
+invariant-loop-j m q labels top j₀ j =
     (j ≤ 4) × (in_range m q (4 - j) (drop (4 * j) labels) ≡ in_range m q 4 labels)
 
-abbrev decreases-loop : tie.decreases-loop
-decreases-loop m q labels top j₀ j = 4 - j
+abbrev decreases-loop-j : tie.decreases-loop-j
+decreases-loop-j m q labels top j₀ j = 4 - j
 
 -- the shift is of fewer than 64
-few : (k : tie.Start invariant-loop decreases-loop) → k.args.q < 64
+few : (k : tie.Start invariant-loop-j decreases-loop-j) → k.args.q < 64
 few k = omega arith
 
-shl-top : tie.Need-overflow-shl-top invariant-loop decreases-loop
-shl-top c = omega arith
+overflow_shl-top : tie.Need-overflow_shl-top invariant-loop-j decreases-loop-j
+overflow_shl-top c = omega arith
 
-mul-top : tie.Need-overflow-mul-top invariant-loop decreases-loop
-mul-top c =
+overflow_mul-top : tie.Need-overflow_mul-top invariant-loop-j decreases-loop-j
+overflow_mul-top c =
     let p = c.before.requires in
     let b : c.before.args.m * 2 ^ c.before.args.q ≤ 18 * 2 ^ 5 = mul-le-mul p.1 (pow_mono p.2) in
     rw (shifted_one _ (few c.before)) (omega arith)
 
-loop-holds : tie.Need-loop-init invariant-loop decreases-loop
-loop-holds c = (omega arith, refl)
+loop-j-init : tie.Need-loop-j-init invariant-loop-j decreases-loop-j
+loop-j-init c = (omega arith, refl)
 
-mul-symbol-in-range : tie.Need-overflow-mul-symbol-in-range invariant-loop decreases-loop
-mul-symbol-in-range c = omega arith
+overflow_mul-j : tie.Need-overflow_mul-j invariant-loop-j decreases-loop-j
+overflow_mul-j c = omega arith
 
-symbol-in-range-requires : tie.Need-symbol-in-range-requires invariant-loop decreases-loop
-symbol-in-range-requires c κs = omega arith
+symbol_in_range-requires : tie.Need-symbol_in_range-requires invariant-loop-j decreases-loop-j
+symbol_in_range-requires c κs = omega arith
 
 -- from a turn back to the function's start
-abbrev start_of : tie.In-loop invariant-loop decreases-loop → tie.Start invariant-loop decreases-loop
+abbrev start_of : tie.In-loop-j invariant-loop-j decreases-loop-j → tie.Start invariant-loop-j decreases-loop-j
 start_of k = k.before.before.before
 
 -- the test of one symbol, and what is left
 here :
-    (k : tie.After-symbol-in-range invariant-loop decreases-loop)
+    (k : tie.After-symbol_in_range invariant-loop-j decreases-loop-j)
     → let a = (start_of k.before).args in
-    let j = k.before.before.loop.j in
+    let j = k.before.before.loop-j.j in
     in_range a.m a.q 4 a.labels.now
-    ≡ (k.symbol-in-range.result && in_range a.m a.q (4 - (j + 1)) (drop (4 * (j + 1)) a.labels.now))
+    ≡ (k.symbol_in_range.result && in_range a.m a.q (4 - (j + 1)) (drop (4 * (j + 1)) a.labels.now))
 here k =
-    let l = k.before.before.loop in
+    let l = k.before.before.loop-j in
     let s = start_of k.before in
-    sym l.invariant.1 ∙ (range-next _ _ _ l.j k.before.loop-test.true ∙ rw (k.symbol-in-range.ensures, shifted_one _ (few s)))
+    sym l.invariant.1 ∙ (range-next _ _ _ l.j k.before.loop-j-test.true ∙ rw (k.symbol_in_range.ensures, shifted_one _ (few s)))
 
-returns : tie.Need-returns invariant-loop decreases-loop
-returns c = let k = c.before in sym (here k ∙ rw (not-true k.symbol-in-range.result c.if1.true))
+returns-then-not-symbol_in_range : tie.Need-returns-then-not-symbol_in_range invariant-loop-j decreases-loop-j
+returns-then-not-symbol_in_range c = let k = c.before in sym (here k ∙ rw (c.if-not-symbol_in_range.true))
 
-add-j : tie.Need-overflow-add-j invariant-loop decreases-loop
-add-j c = omega arith
+overflow_add-j : tie.Need-overflow_add-j invariant-loop-j decreases-loop-j
+overflow_add-j c = omega arith
 
-loop-less : tie.Need-loop-smaller invariant-loop decreases-loop
-loop-less c = omega arith
+loop-j-smaller : tie.Need-loop-j-smaller invariant-loop-j decreases-loop-j
+loop-j-smaller c = omega arith
 
-loop-again : tie.Need-loop-preserved invariant-loop decreases-loop
-loop-again c = (omega arith, sym (here c.before ∙ rw (not-false c.before.symbol-in-range.result c.if1.false)))
+loop-j-preserved : tie.Need-loop-j-preserved invariant-loop-j decreases-loop-j
+loop-j-preserved c = (omega arith, sym (here c.before ∙ rw (c.if-not-symbol_in_range.false)))
 
-returns-2 : tie.Need-returns-2 invariant-loop decreases-loop
-returns-2 c =
-    let l = c.before.loop in
-    sym (range_none _ _ _ l.j c.loop-test.false) ∙ l.invariant.1
+returns : tie.Need-returns invariant-loop-j decreases-loop-j
+returns c =
+    let l = c.before.loop-j in
+    sym (range_none _ _ _ l.j c.loop-j-test.false) ∙ l.invariant.1
 
 pub in_range_spec : {M : Type 1} → statement M
 in_range_spec =
     tie.close
     (tie.spec
-    invariant-loop
-    decreases-loop
-    shl-top
-    mul-top
-    loop-holds
-    mul-symbol-in-range
-    symbol-in-range-requires
-    returns
-    add-j
-    loop-less
-    loop-again
-    returns-2)
+    invariant-loop-j
+    decreases-loop-j
+    overflow_shl-top
+    overflow_mul-top
+    loop-j-init
+    overflow_mul-j
+    symbol_in_range-requires
+    returns-then-not-symbol_in_range
+    overflow_add-j
+    loop-j-smaller
+    loop-j-preserved
+    returns)

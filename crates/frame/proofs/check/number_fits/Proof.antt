@@ -7,11 +7,11 @@ use borrow.Author.Rules.{rules}
 use Rattle.frame.proofs.check.number_fits.Statement.{statement}
 use Rattle.frame.proofs.check.number_fits.Tie as tie
 
-shl-result : tie.Need-overflow-shl-result
-shl-result c = search rules
+overflow_shl-result : tie.Need-overflow_shl-result
+overflow_shl-result c = search rules
 
 returns : tie.Need-returns
 returns c = ap (ltb c.args.number) (shifted_one _ (omega arith))
 
 pub number_fits_spec : {M : Type 1} → statement M
-number_fits_spec = tie.close (tie.spec shl-result returns)
+number_fits_spec = tie.close (tie.spec overflow_shl-result returns)

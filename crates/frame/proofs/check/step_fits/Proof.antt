@@ -3,11 +3,11 @@ use borrow.Author.Rules.{rules}
 use Rattle.frame.proofs.check.step_fits.Statement.{statement}
 use Rattle.frame.proofs.check.step_fits.Tie as tie
 
-returns : tie.Need-returns
-returns c = search rules
+returns-then-three : tie.Need-returns-then-three
+returns-then-three c = search rules
 
-returns-2 : tie.Need-returns-2
-returns-2 c = rw c.if1.false
+returns : tie.Need-returns
+returns c = rw c.if-three.false
 
 pub step_fits_spec : {M : Type 1} → statement M
-step_fits_spec = tie.close (tie.spec returns returns-2)
+step_fits_spec = tie.close (tie.spec returns-then-three returns)

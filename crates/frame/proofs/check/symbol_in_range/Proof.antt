@@ -9,64 +9,64 @@ use Rattle.frame.proofs.check.symbol_in_range.Statement.{statement}
 use Rattle.frame.proofs.check.symbol_in_range.Tie as tie
 
 -- from each label that is in its range back to the function's start
-abbrev first : tie.Else1 → tie.Start
+abbrev first : tie.Else-label_at-top → tie.Start
 first k = k.before.before.before
 
-abbrev second : tie.Else2 → tie.Start
+abbrev second : tie.Else-label_at-top-2 → tie.Start
 second k = first k.before.before
 
-abbrev third : tie.Else3 → tie.Start
+abbrev third : tie.Else-label_at-gt3 → tie.Start
 third k = second k.before.before
 
-label-at-requires : tie.Need-label-at-requires
-label-at-requires c κs = search rules
+label_at-requires : tie.Need-label_at-requires
+label_at-requires c κs = search rules
 
-returns : tie.Need-returns
-returns c = let a = c.before.before.before.args in first_fails a.top a.labels.now a.at (omega arith)
+returns-then-label_at-top : tie.Need-returns-then-label_at-top
+returns-then-label_at-top c = let a = c.before.before.before.args in first_fails a.top a.labels.now a.at (omega arith)
 
-add-label-at : tie.Need-overflow-add-label-at
-add-label-at c = search rules
+overflow_add-at : tie.Need-overflow_add-at
+overflow_add-at c = search rules
 
-label-at-requires-2 : tie.Need-label-at-requires-2
-label-at-requires-2 c κs = search rules
+label_at-requires-2 : tie.Need-label_at-requires-2
+label_at-requires-2 c κs = search rules
 
-returns-2 : tie.Need-returns-2
-returns-2 c = let a = (first c.before.before).args in second-fails a.top a.labels.now a.at (omega arith) (omega arith)
+returns-then-label_at-top-2 : tie.Need-returns-then-label_at-top-2
+returns-then-label_at-top-2 c = let a = (first c.before.before).args in second-fails a.top a.labels.now a.at (omega arith) (omega arith)
 
-add-label-at-2 : tie.Need-overflow-add-label-at-2
-add-label-at-2 c = search rules
+overflow_add-at-2 : tie.Need-overflow_add-at-2
+overflow_add-at-2 c = search rules
 
-label-at-requires-3 : tie.Need-label-at-requires-3
-label-at-requires-3 c κs = search rules
+label_at-requires-3 : tie.Need-label_at-requires-3
+label_at-requires-3 c κs = search rules
 
-returns-3 : tie.Need-returns-3
-returns-3 c =
+returns-then-label_at-gt3 : tie.Need-returns-then-label_at-gt3
+returns-then-label_at-gt3 c =
     let a = (second c.before.before).args in
     turn-fails a.top a.labels.now a.at (omega arith) (omega arith) (omega arith)
 
-add-label-at-3 : tie.Need-overflow-add-label-at-3
-add-label-at-3 c = search rules
+overflow_add-at-3 : tie.Need-overflow_add-at-3
+overflow_add-at-3 c = search rules
 
-label-at-requires-4 : tie.Need-label-at-requires-4
-label-at-requires-4 c κs = search rules
+label_at-requires-4 : tie.Need-label_at-requires-4
+label_at-requires-4 c κs = search rules
 
-returns-4 : tie.Need-returns-4
-returns-4 c =
+returns : tie.Need-returns
+returns c =
     let a = (third c.before).args in
-    ap (λ (x : ℕ). leb x 1) c.label-at4.ensures ∙ i1_decides a.top a.labels.now a.at (omega arith) (omega arith) (omega arith)
+    ap (λ (x : ℕ). leb x 1) c.label_at-4.ensures ∙ i1_decides a.top a.labels.now a.at (omega arith) (omega arith) (omega arith)
 
 pub symbol_in_range_spec : {M : Type 1} → statement M
 symbol_in_range_spec =
     tie.close
     (tie.spec
-    label-at-requires
-    returns
-    add-label-at
-    label-at-requires-2
-    returns-2
-    add-label-at-2
-    label-at-requires-3
-    returns-3
-    add-label-at-3
-    label-at-requires-4
-    returns-4)
+    label_at-requires
+    returns-then-label_at-top
+    overflow_add-at
+    label_at-requires-2
+    returns-then-label_at-top-2
+    overflow_add-at-2
+    label_at-requires-3
+    returns-then-label_at-gt3
+    overflow_add-at-3
+    label_at-requires-4
+    returns)

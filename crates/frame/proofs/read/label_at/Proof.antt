@@ -4,17 +4,17 @@ use borrow.Author.Rules.{rules}
 use Rattle.frame.proofs.read.label_at.Statement.{statement}
 use Rattle.frame.proofs.read.label_at.Tie as tie
 
-mul-result : tie.Need-overflow-mul-result
-mul-result c = search rules
+offset_bounds-labels-at : tie.Need-offset_bounds-labels-at
+offset_bounds-labels-at c = search rules
 
-shared-slice-read-result : tie.Need-shared-slice-read-result
-shared-slice-read-result c = search rules
+bounds-labels-at : tie.Need-bounds-labels-at
+bounds-labels-at c = search rules
 
-cast-result : tie.Need-overflow-cast-result
-cast-result c = omega (arith, c.shared-slice-known.given c.before.args.at)
+overflow_cast-result : tie.Need-overflow_cast-result
+overflow_cast-result c = omega (arith, c.shared_slice_known-1.given c.before.args.at)
 
 returns : tie.Need-returns
 returns c = search rules
 
 pub label_at_spec : {M : Type 1} → statement M
-label_at_spec = tie.close (tie.spec mul-result shared-slice-read-result cast-result returns)
+label_at_spec = tie.close (tie.spec offset_bounds-labels-at bounds-labels-at overflow_cast-result returns)

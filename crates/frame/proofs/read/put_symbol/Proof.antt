@@ -37,19 +37,19 @@ put_number : (n x : ℕ) {a b : List ℕ} {at next : ℕ} → b ≡ put a at (di
 put_number n x e is-next = record { buffer = e; place = rw (length_digits n x) is-next }
 
 -- from each call back to the one before it
-abbrev start : tie.After-put-bit → tie.Start
+abbrev start : tie.After-put_bit → tie.Start
 start k = k.before.before.before
 
-abbrev first : tie.After-put-bit2 → tie.After-put-bit
+abbrev first : tie.After-put_bit-2 → tie.After-put_bit
 first k = k.before.before.before.before
 
-abbrev second : tie.After-put-third → tie.After-put-bit2
+abbrev second : tie.After-put_third-next → tie.After-put_bit-2
 second k = k.before.before.before.before
 
-abbrev third : tie.After-put-digits → tie.After-put-third
+abbrev third : tie.After-put_digits → tie.After-put_third-next
 third k = k.before.before.before.before
 
-abbrev fourth : tie.After-put-digits2 → tie.After-put-digits
+abbrev fourth : tie.After-put_digits-2 → tie.After-put_digits
 fourth k = k.before.before.before.before
 
 -- the parts so far are put, and the slice is as long as it was
@@ -58,32 +58,32 @@ record Done (bits part after : List ℕ) (at next : ℕ) : Type 0 where
   long : length after ≡ length bits
 
 done_one :
-    (k : tie.After-put-bit)
+    (k : tie.After-put_bit)
     → let a = (start k).args in
-    Done a.bits.now (a.symbol.i1 ∷ []) k.put-bit.new.1.0 a.at (a.at + 1)
-done_one k = record { parted = record { buffer = k.put-bit.ensures; place = refl }; long = k.put-bit.auto.1.0 }
+    Done a.bits.now (a.symbol.i1 ∷ []) k.put_bit.new.bits a.at (a.at + 1)
+done_one k = record { parted = record { buffer = k.put_bit.ensures; place = refl }; long = k.put_bit.auto.bits }
 
 done_two :
-    (k : tie.After-put-bit2)
+    (k : tie.After-put_bit-2)
     → let a = (start (first k)).args in
-    Done a.bits.now (a.symbol.i1 ∷ a.symbol.i2 ∷ []) k.put-bit2.new.1.0 a.at (a.at + 2)
+    Done a.bits.now (a.symbol.i1 ∷ a.symbol.i2 ∷ []) k.put_bit-2.new.bits a.at (a.at + 2)
 done_two k =
     let d = done_one (first k) in
     record {
       parted =
-          put-more (omega (arith, (start (first k)).requires.3)) d.parted (record { buffer = k.put-bit2.ensures; place = omega arith });
-      long = k.put-bit2.auto.1.0 ∙ d.long;
+          put-more (omega (arith, (start (first k)).requires.3)) d.parted (record { buffer = k.put_bit-2.ensures; place = omega arith });
+      long = k.put_bit-2.auto.bits ∙ d.long;
     }
 
 done-three :
-    (k : tie.After-put-third)
+    (k : tie.After-put_third-next)
     → let a = (start (first (second k))).args in
-    Done a.bits.now (heads a.three a.symbol) k.put-third.new.1.1.0 a.at k.put-third.result
+    Done a.bits.now (heads a.three a.symbol) k.put_third-next.new.bits a.at k.put_third-next.result
 done-three k =
     let d = done_two (second k) in
     record {
-      parted = put-more (omega (arith, (start (first (second k))).requires.3)) d.parted k.put-third.ensures;
-      long = k.put-third.auto.1.1.0 ∙ d.long;
+      parted = put-more (omega (arith, (start (first (second k))).requires.3)) d.parted k.put_third-next.ensures;
+      long = k.put_third-next.auto.bits ∙ d.long;
     }
 
 -- the slice has room for all of them
@@ -92,53 +92,53 @@ room s = omega (arith, s.requires.3, heads-length s.args.q s.args.three s.args.s
 
 -- behind I3 the digits have room
 room-behind :
-    (k : tie.After-put-third)
+    (k : tie.After-put_third-next)
     → let s = start (first (second k)) in
-    (k.put-third.result + 2 * s.args.q ≤ length k.put-third.new.1.1.0) × (length k.put-third.new.1.1.0 < 2 ^ 64)
+    (k.put_third-next.result + 2 * s.args.q ≤ length k.put_third-next.new.bits) × (length k.put_third-next.new.bits < 2 ^ 64)
 room-behind k =
     let d = done-three k in
     let s = start (first (second k)) in
-    (omega (arith, room s, d.parted.place, d.long), omega (arith, s.good, d.long))
+    (omega (arith, room s, d.parted.place, d.long), omega (arith, s.well_formed, d.long))
 
-put-bit-requires : tie.Need-put-bit-requires
-put-bit-requires c κs = let s = c.before.before in (s.requires.0, omega (arith, room s))
+put_bit-requires : tie.Need-put_bit-requires
+put_bit-requires c κs = let s = c.before.before in (s.requires.0, omega (arith, room s))
 
-add-put-bit : tie.Need-overflow-add-put-bit
-add-put-bit c = search rules
+overflow_add-at : tie.Need-overflow_add-at
+overflow_add-at c = search rules
 
-put-bit-requires-2 : tie.Need-put-bit-requires-2
-put-bit-requires-2 c κs =
+put_bit-requires-2 : tie.Need-put_bit-requires-2
+put_bit-requires-2 c κs =
     let k = c.before.before.before in
     ((start k).requires.1, omega (arith, room (start k), (done_one k).long))
 
-add-put-third : tie.Need-overflow-add-put-third
-add-put-third c = search rules
+overflow_add-at-2 : tie.Need-overflow_add-at-2
+overflow_add-at-2 c = search rules
 
-put-third-requires : tie.Need-put-third-requires
-put-third-requires c κs =
+put_third-next-requires : tie.Need-put_third-next-requires
+put_third-next-requires c κs =
     let k = c.before.before.before in
     let s = start (first k) in
-    (s.pre.2, omega (arith, third-length s.args.three s.args.symbol.i3, room s, (done_two k).long))
+    (s.requires.2, omega (arith, third-length s.args.three s.args.symbol.i3, room s, (done_two k).long))
 
-put-digits-requires : tie.Need-put-digits-requires
-put-digits-requires c κs = omega (arith, room-behind c.before.before.before)
+put_digits-requires : tie.Need-put_digits-requires
+put_digits-requires c κs = omega (arith, room-behind c.before.before.before)
 
-add-put-digits : tie.Need-overflow-add-put-digits
-add-put-digits c = omega (arith, room-behind (third c.before.before.before))
+overflow_add-next : tie.Need-overflow_add-next
+overflow_add-next c = omega (arith, room-behind (third c.before.before.before))
 
-put-digits-requires-2 : tie.Need-put-digits-requires-2
-put-digits-requires-2 c κs =
+put_digits-requires-2 : tie.Need-put_digits-requires-2
+put_digits-requires-2 c κs =
     let k = c.before.before.before in
-    omega (arith, room-behind (third k), k.put-digits.auto.1.1.0)
+    omega (arith, room-behind (third k), k.put_digits.auto.bits)
 
-mul-result : tie.Need-overflow-mul-result
-mul-result c = search rules
+overflow_mul-result : tie.Need-overflow_mul-result
+overflow_mul-result c = search rules
 
-add-result : tie.Need-overflow-add-result
-add-result c = omega (arith, room-behind (third (fourth c.before.before)))
+overflow_add-result : tie.Need-overflow_add-result
+overflow_add-result c = omega (arith, room-behind (third (fourth c.before.before)))
 
-same_length : tie.Need-same-length
-same_length c = search rules
+shape_of-bits : tie.Need-shape_of-bits
+shape_of-bits c = search rules
 
 returns : tie.Need-returns
 returns c =
@@ -146,8 +146,8 @@ returns c =
     let s = start (first (second k)) in
     let a = s.args in
     let inside : a.at ≤ length a.bits.now = omega (arith, room s) in
-    let d = (fourth c.before.before).put-digits.ensures in
-    let e = c.before.before.put-digits2.ensures in
+    let d = (fourth c.before.before).put_digits.ensures in
+    let e = c.before.before.put_digits-2.ensures in
     rw (← parts a.q a.three a.symbol)
     (put-more inside
     (put-more inside (done-three k).parted (put_number a.q a.symbol.first d refl))
@@ -157,15 +157,15 @@ pub put_symbol_spec : {M : Type 1} → statement M
 put_symbol_spec =
     tie.close
     (tie.spec
-    put-bit-requires
-    add-put-bit
-    put-bit-requires-2
-    add-put-third
-    put-third-requires
-    put-digits-requires
-    add-put-digits
-    put-digits-requires-2
-    mul-result
-    add-result
-    same_length
+    put_bit-requires
+    overflow_add-at
+    put_bit-requires-2
+    overflow_add-at-2
+    put_third-next-requires
+    put_digits-requires
+    overflow_add-next
+    put_digits-requires-2
+    overflow_mul-result
+    overflow_add-result
+    shape_of-bits
     returns)

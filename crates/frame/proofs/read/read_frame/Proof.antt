@@ -22,134 +22,134 @@ binary :
 unfolding symbol_read
 binary top z labels at q r = (rw (get_or-drop at labels 3 0) r.i1, omega arith, omega arith)
 
-abbrev invariant-loop : tie.invariant-loop
-invariant-loop number z labels bits₀ q threes at₀ turned₀ j₀ bits at turned j = ReadUpTo q threes at₀ number labels z bits at turned j
+abbrev invariant-loop-j : tie.invariant-loop-j
+invariant-loop-j number z labels bits₀ q threes at₀ turned₀ j₀ bits at turned j = ReadUpTo q threes at₀ number labels z bits at turned j
 
-abbrev decreases-loop : tie.decreases-loop
-decreases-loop number z labels bits₀ q threes at₀ turned₀ j₀ bits at turned j = 4 - j
+abbrev decreases-loop-j : tie.decreases-loop-j
+decreases-loop-j number z labels bits₀ q threes at₀ turned₀ j₀ bits at turned j = 4 - j
 
 -- from the loop's head, and from a symbol's end, back to the function's start
-abbrev put_of : tie.At-loop invariant-loop decreases-loop → tie.After-put-digits invariant-loop decreases-loop
+abbrev put_of : tie.At-loop-j invariant-loop-j decreases-loop-j → tie.After-put_digits invariant-loop-j decreases-loop-j
 put_of k = k.before.before.before
 
-abbrev start_of : tie.After-put-digits invariant-loop decreases-loop → tie.Start invariant-loop decreases-loop
+abbrev start_of : tie.After-put_digits invariant-loop-j decreases-loop-j → tie.Start invariant-loop-j decreases-loop-j
 start_of k = k.before.before.before.before
 
-abbrev begun : tie.At-loop invariant-loop decreases-loop → tie.Start invariant-loop decreases-loop
+abbrev begun : tie.At-loop-j invariant-loop-j decreases-loop-j → tie.Start invariant-loop-j decreases-loop-j
 begun k = start_of (put_of k)
 
-put-digits-requires : tie.Need-put-digits-requires invariant-loop decreases-loop
+put_digits-requires : tie.Need-put_digits-requires invariant-loop-j decreases-loop-j
 unfolding frame_length
-put-digits-requires c κs = omega (arith, c.before.before.before.requires.size)
+put_digits-requires c κs = omega (arith, c.before.before.before.requires.size)
 
-loop-holds : tie.Need-loop-init invariant-loop decreases-loop
+loop-j-init : tie.Need-loop-j-init invariant-loop-j decreases-loop-j
 unfolding frame_length
-loop-holds c =
+loop-j-init c =
     let d = c.before.before in
     let s = start_of d in
     let a = s.args in
-    let size : length d.put-digits.new.1.1.0 ≡ frame_length a.shape = d.put-digits.auto.1.1.0 ∙ s.pre.size in
+    let size : length d.put_digits.new.bits ≡ frame_length a.shape = d.put_digits.auto.bits ∙ s.requires.size in
     read_none a.shape.uncoded a.shape.threes a.shape.shell a.number a.labels.now a.z
-    a.bits.now _ s.pre.turn s.pre.limits.threes size d.put-digits.ensures
+    a.bits.now _ s.requires.turn s.requires.limits.threes size d.put_digits.ensures
 
-mul-symbol-read : tie.Need-overflow-mul-symbol-read invariant-loop decreases-loop
-mul-symbol-read c = omega arith
+overflow_mul-j : tie.Need-overflow_mul-j invariant-loop-j decreases-loop-j
+overflow_mul-j c = omega arith
 
 -- the labels of this symbol are in their ranges
 here :
-    (k : tie.In-loop invariant-loop decreases-loop)
+    (k : tie.In-loop-j invariant-loop-j decreases-loop-j)
     → let s = begun k.before in
-    FourInRange (s.pre.M * 2 ^ s.args.shape.uncoded) s.args.labels.now (4 * k.before.loop.j)
+    FourInRange (s.requires.M * 2 ^ s.args.shape.uncoded) s.args.labels.now (4 * k.before.loop-j.j)
 here k =
     let s = begun k.before in
-    four-in_range s.pre.M s.args.shape.uncoded s.args.labels.now s.pre.ranges k.before.loop.j k.loop-test.true
+    four-in_range s.requires.M s.args.shape.uncoded s.args.labels.now s.requires.ranges k.before.loop-j.j k.loop-j-test.true
 
-symbol-read-requires : tie.Need-symbol-read-requires invariant-loop decreases-loop
-symbol-read-requires c κs =
+symbol_read-symbol-requires : tie.Need-symbol_read-symbol-requires invariant-loop-j decreases-loop-j
+symbol_read-symbol-requires c κs =
     let s = begun c.before in
-    (omega (arith, s.pre.sixteen), s.pre.limits.uncoded, c.before.loop.invariant.turn, (here c).turn)
+    (omega (arith, s.requires.sixteen), s.requires.limits.uncoded, c.before.loop-j.invariant.turn, (here c).turn)
 
 -- its bits have room
 room :
-    (k : tie.After-symbol-read invariant-loop decreases-loop)
-    → let l = k.before.before.loop in
+    (k : tie.After-symbol_read-symbol invariant-loop-j decreases-loop-j)
+    → let l = k.before.before.loop-j in
     let shape = (begun k.before.before).args.shape in
     l.at + symbol_length shape.uncoded (ltb l.j shape.threes) ≤ length l.bits
-room k = symbol_room k.before.before.loop.invariant k.before.loop-test.true _ k.symbol-read.ensures
+room k = symbol_room k.before.before.loop-j.invariant k.before.loop-j-test.true _ k.symbol_read-symbol.ensures
 
-put-symbol-requires : tie.Need-put-symbol-requires invariant-loop decreases-loop
-put-symbol-requires c κs =
+put_symbol-at-requires : tie.Need-put_symbol-at-requires invariant-loop-j decreases-loop-j
+put_symbol-at-requires c κs =
     let k = c.before in
     let l = k.before.before in
     let a = (begun l).args in
-    let f = binary _ l.loop.turned a.labels.now (4 * l.loop.j) a.shape.uncoded (here k.before) in
-    rw k.symbol-read.ensures (f.0, f.1, f.2, room k)
+    let f = binary _ l.loop-j.turned a.labels.now (4 * l.loop-j.j) a.shape.uncoded (here k.before) in
+    rw k.symbol_read-symbol.ensures (f.0, f.1, f.2, room k)
 
 -- from the labels of a symbol back to its bits
-abbrev symbol-of : tie.After-slice-known3 invariant-loop decreases-loop → tie.After-put-symbol invariant-loop decreases-loop
+abbrev symbol-of : tie.After-slice_known-in-loop-j-1 invariant-loop-j decreases-loop-j → tie.After-put_symbol-at invariant-loop-j decreases-loop-j
 symbol-of k = k.before.before
 
-abbrev read_of : tie.After-slice-known3 invariant-loop decreases-loop → tie.After-symbol-read invariant-loop decreases-loop
+abbrev read_of : tie.After-slice_known-in-loop-j-1 invariant-loop-j decreases-loop-j → tie.After-symbol_read-symbol invariant-loop-j decreases-loop-j
 read_of k = (symbol-of k).before.before
 
-mul-label-at : tie.Need-overflow-mul-label-at invariant-loop decreases-loop
-mul-label-at c = omega arith
+overflow_mul-j-in-loop-j : tie.Need-overflow_mul-j-in-loop-j invariant-loop-j decreases-loop-j
+overflow_mul-j-in-loop-j c = omega arith
 
-add-label-at : tie.Need-overflow-add-label-at invariant-loop decreases-loop
-add-label-at c = omega arith
+overflow_add-j : tie.Need-overflow_add-j invariant-loop-j decreases-loop-j
+overflow_add-j c = omega arith
 
-label-at-requires : tie.Need-label-at-requires invariant-loop decreases-loop
-label-at-requires c κs =
+label_at-turned-requires : tie.Need-label_at-turned-requires invariant-loop-j decreases-loop-j
+label_at-turned-requires c κs =
     let t = (read_of c).before in
-    omega (arith, t.loop-test.taken, (begun t.before).pre.sixteen)
+    omega (arith, t.loop-j-test.true, (begun t.before).requires.sixteen)
 
-add-j : tie.Need-overflow-add-j invariant-loop decreases-loop
-add-j c = omega arith
+overflow_add-j-in-loop-j : tie.Need-overflow_add-j-in-loop-j invariant-loop-j decreases-loop-j
+overflow_add-j-in-loop-j c = omega arith
 
-loop-less : tie.Need-loop-smaller invariant-loop decreases-loop
-loop-less c = omega arith
+loop-j-smaller : tie.Need-loop-j-smaller invariant-loop-j decreases-loop-j
+loop-j-smaller c = omega arith
 
-loop-again : tie.Need-loop-preserved invariant-loop decreases-loop
-loop-again c =
+loop-j-preserved : tie.Need-loop-j-preserved invariant-loop-j decreases-loop-j
+loop-j-preserved c =
     let r = read_of c.before in
     let t = r.before in
-    read_more t.before.loop.inv t.loop-test.taken _ r.symbol-read.ensures _ _ _
-    (symbol-of c.before).put-symbol.ensures c.label_at.ensures (rw c.label_at.ensures (here t).turn)
+    read_more t.before.loop-j.invariant t.loop-j-test.true _ r.symbol_read-symbol.ensures _ _ _
+    (symbol-of c.before).put_symbol-at.ensures c.label_at-turned.ensures (rw c.label_at-turned.ensures (here t).turn)
 
-label-at-requires-2 : tie.Need-label-at-requires-2 invariant-loop decreases-loop
-label-at-requires-2 c κs = omega (arith, (begun c.before).pre.sixteen)
+label_at-requires : tie.Need-label_at-requires invariant-loop-j decreases-loop-j
+label_at-requires c κs = omega (arith, (begun c.before).requires.sixteen)
 
-same_length : tie.Need-same-length invariant-loop decreases-loop
+shape_of-bits : tie.Need-shape_of-bits invariant-loop-j decreases-loop-j
 unfolding frame_length
-same_length c =
+shape_of-bits c =
     let l = c.before.before in
     let s = begun l in
     let a = s.args in
     let shape = a.shape in
-    let whole = whole_length shape.uncoded shape.threes shape.shell a.number a.labels.now a.z s.pre.limits.threes in
-    l.loop.invariant.filling.size ∙ (whole ∙ sym s.pre.size)
+    let whole = whole_length shape.uncoded shape.threes shape.shell a.number a.labels.now a.z s.requires.limits.threes in
+    l.loop-j.invariant.filling.size ∙ (whole ∙ sym s.requires.size)
 
-returns : tie.Need-returns invariant-loop decreases-loop
+returns : tie.Need-returns invariant-loop-j decreases-loop-j
 unfolding bits_read frame_read_turned
-returns c = (read_all c.before.before.loop.invariant c.before.loop-test.false, c.label-at2.ensures)
+returns c = (read_all c.before.before.loop-j.invariant c.before.loop-j-test.false, c.label_at.ensures)
 
 pub read_frame_spec : {M : Type 1} → statement M
 read_frame_spec =
     tie.close
     (tie.spec
-    invariant-loop
-    decreases-loop
-    put-digits-requires
-    loop-holds
-    mul-symbol-read
-    symbol-read-requires
-    put-symbol-requires
-    mul-label-at
-    add-label-at
-    label-at-requires
-    add-j
-    loop-less
-    loop-again
-    label-at-requires-2
-    same_length
+    invariant-loop-j
+    decreases-loop-j
+    put_digits-requires
+    loop-j-init
+    overflow_mul-j
+    symbol_read-symbol-requires
+    put_symbol-at-requires
+    overflow_mul-j-in-loop-j
+    overflow_add-j
+    label_at-turned-requires
+    overflow_add-j-in-loop-j
+    loop-j-smaller
+    loop-j-preserved
+    label_at-requires
+    shape_of-bits
     returns)

@@ -15,53 +15,53 @@ small : (q : ℕ) (labels : List ℕ) → RingsFit q labels → (i : ℕ) → ge
 small q labels f i = rw (rings-are q labels) at (every_at (λ r. r < 256) 0 (omega arith) (rings_read q 4 labels) f.small i)
 
 -- from each ring back to the function's start
-abbrev first : tie.After-ring-at → tie.Start
+abbrev first : tie.After-ring_at → tie.Start
 first k = k.before.before
 
-abbrev second : tie.After-ring-at2 → tie.Start
+abbrev second : tie.After-ring_at-2 → tie.Start
 second k = first k.before
 
-abbrev third : tie.After-ring-at3 → tie.Start
+abbrev third : tie.After-ring_at-3 → tie.Start
 third k = second k.before
 
-abbrev fourth : tie.After-ring-at4 → tie.Start
+abbrev fourth : tie.After-ring_at-4 → tie.Start
 fourth k = third k.before
 
-abbrev fifth : tie.After-ring-at5 → tie.Start
+abbrev fifth : tie.After-ring_at-5 → tie.Start
 fifth k = fourth k.before
 
-abbrev sixth : tie.After-ring-at6 → tie.Start
+abbrev sixth : tie.After-ring_at-6 → tie.Start
 sixth k = fifth k.before
 
-abbrev seventh : tie.After-ring-at7 → tie.Start
+abbrev seventh : tie.After-ring_at-7 → tie.Start
 seventh k = sixth k.before
 
-abbrev eighth : tie.After-ring-at8 → tie.Start
+abbrev eighth : tie.After-ring_at-8 → tie.Start
 eighth k = seventh k.before
 
-ring-at-requires : tie.Need-ring-at-requires
-ring-at-requires c κs = let s = c.before in (omega arith, s.requires.uncoded, small _ _ s.requires 0)
+ring_at-requires : tie.Need-ring_at-requires
+ring_at-requires c κs = let s = c.before in (omega arith, s.requires.uncoded, small _ _ s.requires 0)
 
-ring-at-requires-2 : tie.Need-ring-at-requires-2
-ring-at-requires-2 c κs = let s = first c in (omega arith, s.pre.uncoded, small _ _ s.pre 1)
+ring_at-requires-2 : tie.Need-ring_at-requires-2
+ring_at-requires-2 c κs = let s = first c in (omega arith, s.requires.uncoded, small _ _ s.requires 1)
 
-ring-at-requires-3 : tie.Need-ring-at-requires-3
-ring-at-requires-3 c κs = let s = second c in (omega arith, s.pre.uncoded, small _ _ s.pre 2)
+ring_at-requires-3 : tie.Need-ring_at-requires-3
+ring_at-requires-3 c κs = let s = second c in (omega arith, s.requires.uncoded, small _ _ s.requires 2)
 
-ring-at-requires-4 : tie.Need-ring-at-requires-4
-ring-at-requires-4 c κs = let s = third c in (omega arith, s.pre.uncoded, small _ _ s.pre 3)
+ring_at-requires-4 : tie.Need-ring_at-requires-4
+ring_at-requires-4 c κs = let s = third c in (omega arith, s.requires.uncoded, small _ _ s.requires 3)
 
-ring-at-requires-5 : tie.Need-ring-at-requires-5
-ring-at-requires-5 c κs = let s = fourth c in (omega arith, s.pre.uncoded, small _ _ s.pre 4)
+ring_at-requires-5 : tie.Need-ring_at-requires-5
+ring_at-requires-5 c κs = let s = fourth c in (omega arith, s.requires.uncoded, small _ _ s.requires 4)
 
-ring-at-requires-6 : tie.Need-ring-at-requires-6
-ring-at-requires-6 c κs = let s = fifth c in (omega arith, s.pre.uncoded, small _ _ s.pre 5)
+ring_at-requires-6 : tie.Need-ring_at-requires-6
+ring_at-requires-6 c κs = let s = fifth c in (omega arith, s.requires.uncoded, small _ _ s.requires 5)
 
-ring-at-requires-7 : tie.Need-ring-at-requires-7
-ring-at-requires-7 c κs = let s = sixth c in (omega arith, s.pre.uncoded, small _ _ s.pre 6)
+ring_at-requires-7 : tie.Need-ring_at-requires-7
+ring_at-requires-7 c κs = let s = sixth c in (omega arith, s.requires.uncoded, small _ _ s.requires 6)
 
-ring-at-requires-8 : tie.Need-ring-at-requires-8
-ring-at-requires-8 c κs = let s = seventh c in (omega arith, s.pre.uncoded, small _ _ s.pre 7)
+ring_at-requires-8 : tie.Need-ring_at-requires-8
+ring_at-requires-8 c κs = let s = seventh c in (omega arith, s.requires.uncoded, small _ _ s.requires 7)
 
 returns : tie.Need-returns
 returns c = let a = (eighth c).args in rw (rings-are a.q a.labels.now) (cc)
@@ -70,12 +70,12 @@ pub rings_read_spec : {M : Type 1} → statement M
 rings_read_spec =
     tie.close
     (tie.spec
-    ring-at-requires
-    ring-at-requires-2
-    ring-at-requires-3
-    ring-at-requires-4
-    ring-at-requires-5
-    ring-at-requires-6
-    ring-at-requires-7
-    ring-at-requires-8
+    ring_at-requires
+    ring_at-requires-2
+    ring_at-requires-3
+    ring_at-requires-4
+    ring_at-requires-5
+    ring_at-requires-6
+    ring_at-requires-7
+    ring_at-requires-8
     returns)

@@ -13,36 +13,36 @@ use borrow.Author.Rules.{rules}
 use Rattle.frame.proofs.read.symbol_read.Statement.{statement}
 use Rattle.frame.proofs.read.symbol_read.Tie as tie
 
-add-label-at : tie.Need-overflow-add-label-at
-add-label-at c = search rules
+overflow_add-at : tie.Need-overflow_add-at
+overflow_add-at c = search rules
 
-label-at-requires : tie.Need-label-at-requires
-label-at-requires c κs = search rules
+label_at-requires : tie.Need-label_at-requires
+label_at-requires c κs = search rules
 
-z-step-requires : tie.Need-z-step-requires
-z-step-requires c κs = search rules
+z_step-step-requires : tie.Need-z_step-step-requires
+z_step-step-requires c κs = search rules
 
-shl-scale : tie.Need-overflow-shl-scale
-shl-scale c = search rules
+overflow_shl-scale : tie.Need-overflow_shl-scale
+overflow_shl-scale c = search rules
 
-add-label-at-2 : tie.Need-overflow-add-label-at-2
-add-label-at-2 c = search rules
+overflow_add-at-2 : tie.Need-overflow_add-at-2
+overflow_add-at-2 c = search rules
 
-label-at-requires-2 : tie.Need-label-at-requires-2
-label-at-requires-2 c κs = search rules
+label_at-requires-2 : tie.Need-label_at-requires-2
+label_at-requires-2 c κs = search rules
 
-label-at-requires-3 : tie.Need-label-at-requires-3
-label-at-requires-3 c κs = search rules
+label_at-requires-3 : tie.Need-label_at-requires-3
+label_at-requires-3 c κs = search rules
 
 -- from each call back to the one before it
-abbrev start_of : tie.After-z-step → tie.Start
+abbrev start_of : tie.After-z_step-step → tie.Start
 start_of k = k.before.before.before
 
-abbrev step_of : tie.After-label-at4 → tie.After-z-step
+abbrev step_of : tie.After-label_at-4 → tie.After-z_step-step
 step_of k = k.before.before.before
 
 -- the shift is of fewer than 64
-few : (k : tie.After-z-step) → (start_of k).args.q < 64
+few : (k : tie.After-z_step-step) → (start_of k).args.q < 64
 few k = omega arith
 
 -- the symbol from what was read
@@ -57,42 +57,42 @@ symbol_is :
 unfolding symbol_read
 symbol_is q z at labels i1 step first second scale e1 es ef eg ek = rw (e1, es, ef, eg, ek) (simp (get_or-drop, add-zero))
 
-rem-t12 : tie.Need-nonzero-rem-t12
-rem-t12 c = rw (shifted_one _ (few c.before.before)) (pow_pos _)
+nonzero_rem-result-2 : tie.Need-nonzero_rem-result-2
+nonzero_rem-result-2 c = rw (shifted_one _ (few c.before.before)) (pow_pos _)
 
-add-label-at-3 : tie.Need-overflow-add-label-at-3
-add-label-at-3 c = search rules
+overflow_add-at-3 : tie.Need-overflow_add-at-3
+overflow_add-at-3 c = search rules
 
-label-at-requires-4 : tie.Need-label-at-requires-4
-label-at-requires-4 c κs = search rules
+label_at-requires-4 : tie.Need-label_at-requires-4
+label_at-requires-4 c κs = search rules
 
-rem-t15 : tie.Need-nonzero-rem-t15
-rem-t15 c = rw (shifted_one _ (few c.before.before.before)) (pow_pos _)
+nonzero_rem-result-3 : tie.Need-nonzero_rem-result-3
+nonzero_rem-result-3 c = rw (shifted_one _ (few c.before.before.before)) (pow_pos _)
 
 returns : tie.Need-returns
 returns c =
     let k = step_of c in
     let a = (start_of k).args in
     symbol_is a.q a.z a.at a.labels.now _ _ _ _ _
-    c.before.before.label-at2.ensures
-    (k.z-step.ensures ∙ ap (λ (next : ℕ). (next + 4 - a.z) % 4) k.before.label_at.ensures)
-    c.before.label-at3.ensures
-    c.label-at4.ensures
+    c.before.before.label_at-2.ensures
+    (k.z_step-step.ensures ∙ ap (λ (next : ℕ). (next + 4 - a.z) % 4) k.before.label_at.ensures)
+    c.before.label_at-3.ensures
+    c.label_at-4.ensures
     (shifted_one _ (few k))
 
 pub symbol_read_spec : {M : Type 1} → statement M
 symbol_read_spec =
     tie.close
     (tie.spec
-    add-label-at
-    label-at-requires
-    z-step-requires
-    shl-scale
-    add-label-at-2
-    label-at-requires-2
-    label-at-requires-3
-    rem-t12
-    add-label-at-3
-    label-at-requires-4
-    rem-t15
+    overflow_add-at
+    label_at-requires
+    z_step-step-requires
+    overflow_shl-scale
+    overflow_add-at-2
+    label_at-requires-2
+    label_at-requires-3
+    nonzero_rem-result-2
+    overflow_add-at-3
+    label_at-requires-4
+    nonzero_rem-result-3
     returns)

@@ -55,60 +55,60 @@ lead-of k = k.before.before.before
 lead-requires : tie.Need-lead-requires
 lead-requires c κs = tt
 
-add-q-at : tie.Need-overflow-add-q-at
-add-q-at c = omega (arith, (known c).inside)
+overflow_add-q_at : tie.Need-overflow_add-q_at
+overflow_add-q_at c = omega (arith, (known c).inside)
 
-shared-slice-read-t8 : tie.Need-shared-slice-read-t8
-shared-slice-read-t8 c = omega (arith, (known c.before).inside, (known c.before).two)
+bounds-bits-at : tie.Need-bounds-bits-at
+bounds-bits-at c = omega (arith, (known c.before).inside, (known c.before).two)
 
-cast-t9 : tie.Need-overflow-cast-t9
-cast-t9 c = omega (arith, c.shared-slice-known2.given c.before.before.before.args.at)
+overflow_cast-result : tie.Need-overflow_cast-result
+overflow_cast-result c = omega (arith, c.shared_slice_known-2-1.given c.before.before.before.args.at)
 
-add-t6 : tie.Need-overflow-add-t6
-add-t6 c = omega (arith, (known c.before).inside, (known c.before).two)
+overflow_add-result : tie.Need-overflow_add-result
+overflow_add-result c = omega (arith, (known c.before).inside, (known c.before).two)
 
-shared-slice-read-t11 : tie.Need-shared-slice-read-t11
-shared-slice-read-t11 c = omega (arith, (known c.before.before).inside, (known c.before.before).two)
+bounds-bits-at-2 : tie.Need-bounds-bits-at-2
+bounds-bits-at-2 c = omega (arith, (known c.before.before).inside, (known c.before.before).two)
 
-cast-t12 : tie.Need-overflow-cast-t12
-cast-t12 c = omega (arith, c.shared-slice-known3.given ((start_of c.before.before).args.at + 1))
+overflow_cast-result-2 : tie.Need-overflow_cast-result-2
+overflow_cast-result-2 c = omega (arith, c.shared_slice_known-3-1.given ((start_of c.before.before).args.at + 1))
 
 third-requires : tie.Need-third-requires
 third-requires c κs = omega (arith, (start_of c.before.before).requires.0)
 
-value-at-requires : tie.Need-value-at-requires
-value-at-requires c κs =
+value_at-requires : tie.Need-value_at-requires
+value_at-requires c κs =
     let k = lead-of c in
-    (omega (arith, (known k).inside), omega arith, (start_of k).pre.2)
+    (omega (arith, (known k).inside), omega arith, (start_of k).requires.2)
 
-add-value-at : tie.Need-overflow-add-value-at
-add-value-at c = omega (arith, (known (lead-of c.before)).inside)
+overflow_add-q_at-2 : tie.Need-overflow_add-q_at-2
+overflow_add-q_at-2 c = omega (arith, (known (lead-of c.before)).inside)
 
-value-at-requires-2 : tie.Need-value-at-requires-2
-value-at-requires-2 c κs =
+value_at-requires-2 : tie.Need-value_at-requires-2
+value_at-requires-2 c κs =
     let k = lead-of c.before in
-    (omega (arith, (known k).inside), omega arith, (start_of k).pre.2)
+    (omega (arith, (known k).inside), omega arith, (start_of k).requires.2)
 
 returns : tie.Need-returns
 returns c =
     let k = lead-of c.before.before in
     let a = (start_of k).args in
     found a.bits.now a.at a.q k.lead.result _ _ _ a.three k.lead.ensures c.before.before.third.ensures
-    c.before.value-at.ensures c.value-at2.ensures
+    c.before.value_at.ensures c.value_at-2.ensures
 
 pub symbol_at_spec : {M : Type 1} → statement M
 symbol_at_spec =
     tie.close
     (tie.spec
     lead-requires
-    add-q-at
-    shared-slice-read-t8
-    cast-t9
-    add-t6
-    shared-slice-read-t11
-    cast-t12
+    overflow_add-q_at
+    bounds-bits-at
+    overflow_cast-result
+    overflow_add-result
+    bounds-bits-at-2
+    overflow_cast-result-2
     third-requires
-    value-at-requires
-    add-value-at
-    value-at-requires-2
+    value_at-requires
+    overflow_add-q_at-2
+    value_at-requires-2
     returns)

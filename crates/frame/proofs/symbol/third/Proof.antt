@@ -14,22 +14,22 @@ use Rattle.frame.proofs.symbol.third.Tie as tie
 carried : (bits : List ℕ) (at : ℕ) (three : Bool) → three ≡ true → get_or bits (at + 2) 0 ≡ cond three (get_or (drop at bits) 2 0) 0
 carried bits at three e = rw e (sym (get_or-drop at bits 2 0))
 
-add-result : tie.Need-overflow-add-result
-add-result c = search rules
+overflow_add-result : tie.Need-overflow_add-result
+overflow_add-result c = search rules
 
-shared-slice-read-result : tie.Need-shared-slice-read-result
-shared-slice-read-result c = omega (arith, rw c.before.if1.true at c.before.before.requires)
+bounds-bits-at : tie.Need-bounds-bits-at
+bounds-bits-at c = omega (arith, rw c.before.if-three.true at c.before.before.requires)
 
-cast-result : tie.Need-overflow-cast-result
-cast-result c = omega (arith, c.shared-slice-known.given (c.before.before.args.at + 2))
+overflow_cast-result : tie.Need-overflow_cast-result
+overflow_cast-result c = omega (arith, c.shared_slice_known-1.given (c.before.before.args.at + 2))
 
-returns : tie.Need-returns
-returns c =
+returns-then-three : tie.Need-returns-then-three
+returns-then-three c =
     let a = c.before.before.args in
-    carried a.bits.now a.at a.three c.before.if1.true
+    carried a.bits.now a.at a.three c.before.if-three.true
 
-returns-2 : tie.Need-returns-2
-returns-2 c = search rules
+returns-else-three : tie.Need-returns-else-three
+returns-else-three c = search rules
 
 pub third_spec : {M : Type 1} → statement M
-third_spec = tie.close (tie.spec add-result shared-slice-read-result cast-result returns returns-2)
+third_spec = tie.close (tie.spec overflow_add-result bounds-bits-at overflow_cast-result returns-then-three returns-else-three)

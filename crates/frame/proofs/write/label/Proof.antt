@@ -21,20 +21,20 @@ scale c = shifted_one c.args.q (omega (arith, c.requires.0))
 bound : (c : tie.Start) → 2 ^ c.args.q * c.args.ring + c.args.low < 576
 bound c = small _ _ _ c.requires.0 c.requires.1 c.requires.2
 
-shl-result : tie.Need-overflow-shl-result
-shl-result c = omega arith
+overflow_shl-result : tie.Need-overflow_shl-result
+overflow_shl-result c = omega arith
 
-mul-result : tie.Need-overflow-mul-result
-mul-result c = rw (scale c) (omega (arith, bound c))
+overflow_mul-result : tie.Need-overflow_mul-result
+overflow_mul-result c = rw (scale c) (omega (arith, bound c))
 
-add-result : tie.Need-overflow-add-result
-add-result c = rw (scale c) (omega (arith, bound c))
+overflow_add-result : tie.Need-overflow_add-result
+overflow_add-result c = rw (scale c) (omega (arith, bound c))
 
-cast-result : tie.Need-overflow-cast-result
-cast-result c = rw (scale c) (omega (arith, bound c))
+overflow_cast-result-2 : tie.Need-overflow_cast-result-2
+overflow_cast-result-2 c = rw (scale c) (omega (arith, bound c))
 
 returns : tie.Need-returns
 returns c = rw (scale c)
 
 pub label_spec : {M : Type 1} → statement M
-label_spec = tie.close (tie.spec shl-result mul-result add-result cast-result returns)
+label_spec = tie.close (tie.spec overflow_shl-result overflow_mul-result overflow_add-result overflow_cast-result-2 returns)

@@ -7,41 +7,41 @@ use Rattle.frame.specs.Writing.{four_numbers}
 use Rattle.frame.proofs.write.put_four.Statement.{statement}
 use Rattle.frame.proofs.write.put_four.Tie as tie
 
-mul-out : tie.Need-overflow-mul-out
-mul-out c = search rules
+offset_bounds-out-at : tie.Need-offset_bounds-out-at
+offset_bounds-out-at c = search rules
 
-slice-write-out : tie.Need-slice-write-out
-slice-write-out c = omega arith
+bounds-out-at : tie.Need-bounds-out-at
+bounds-out-at c = omega arith
 
-add-out : tie.Need-overflow-add-out
-add-out c = omega arith
+overflow_add-out : tie.Need-overflow_add-out
+overflow_add-out c = omega arith
 
-mul-out-2 : tie.Need-overflow-mul-out-2
-mul-out-2 c = search rules
+offset_bounds-out-at-2 : tie.Need-offset_bounds-out-at-2
+offset_bounds-out-at-2 c = search rules
 
-slice-write-out-2 : tie.Need-slice-write-out-2
-slice-write-out-2 c = simp length-set (omega arith)
+bounds-out-at-2 : tie.Need-bounds-out-at-2
+bounds-out-at-2 c = simp length-set (omega arith)
 
-add-out-2 : tie.Need-overflow-add-out-2
-add-out-2 c = omega arith
+overflow_add-out-2 : tie.Need-overflow_add-out-2
+overflow_add-out-2 c = omega arith
 
-mul-out-3 : tie.Need-overflow-mul-out-3
-mul-out-3 c = search rules
+offset_bounds-out-at-3 : tie.Need-offset_bounds-out-at-3
+offset_bounds-out-at-3 c = search rules
 
-slice-write-out-3 : tie.Need-slice-write-out-3
-slice-write-out-3 c = simp length-set (omega arith)
+bounds-out-at-3 : tie.Need-bounds-out-at-3
+bounds-out-at-3 c = simp length-set (omega arith)
 
-add-out-3 : tie.Need-overflow-add-out-3
-add-out-3 c = omega arith
+overflow_add-out-3 : tie.Need-overflow_add-out-3
+overflow_add-out-3 c = omega arith
 
-mul-out-4 : tie.Need-overflow-mul-out-4
-mul-out-4 c = search rules
+offset_bounds-out-at-4 : tie.Need-offset_bounds-out-at-4
+offset_bounds-out-at-4 c = search rules
 
-slice-write-out-4 : tie.Need-slice-write-out-4
-slice-write-out-4 c = simp length-set (omega arith)
+bounds-out-at-4 : tie.Need-bounds-out-at-4
+bounds-out-at-4 c = simp length-set (omega arith)
 
-same_length : tie.Need-same-length
-same_length c = search rules
+shape_of-out : tie.Need-shape_of-out
+shape_of-out c = search rules
 
 returns : tie.Need-returns
 unfolding four_numbers
@@ -51,16 +51,16 @@ pub put_four_spec : {M : Type 1} → statement M
 put_four_spec =
     tie.close
     (tie.spec
-    mul-out
-    slice-write-out
-    add-out
-    mul-out-2
-    slice-write-out-2
-    add-out-2
-    mul-out-3
-    slice-write-out-3
-    add-out-3
-    mul-out-4
-    slice-write-out-4
-    same_length
+    offset_bounds-out-at
+    bounds-out-at
+    overflow_add-out
+    offset_bounds-out-at-2
+    bounds-out-at-2
+    overflow_add-out-2
+    offset_bounds-out-at-3
+    bounds-out-at-3
+    overflow_add-out-3
+    offset_bounds-out-at-4
+    bounds-out-at-4
+    shape_of-out
     returns)
