@@ -117,7 +117,7 @@ pub all-written :
 all-written st c worked held turn [] h = tt
 all-written st c worked held turn (call ∷ calls) h = (
   (writer-accepts st call.given call.lent).1 (c, w),
-  all-written _ c (next-worked st c _ _ w) (next-held st c _ _ w) (next-turn st c _ _ w) calls h.1,
+  all-written (writing.answer st call).state c (next-worked st c _ _ w) (next-held st c _ _ w) (next-turn st c _ _ w) calls h.1,
 )
   where
     w : Sendable st c call.given call.lent

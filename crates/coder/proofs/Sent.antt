@@ -131,7 +131,7 @@ module _ (c : Settings) (sound : Sound c) where
       others-ranges = ap (in_range (ring_count c) c.uncoded (4 * k)) others ∙ rest.ranges
 
       first_number : number_fits (ring_count c) (shape_next c t.counter) (take 16 whole) ≡ true
-      first_number = ap (number_fits (ring_count c) (shape_next c t.counter)) first ∙ w.number_fits
+      first_number = ap (number_fits (ring_count c) (shape_next c t.counter)) first ∙ w.number_fits_lem
 
       first_steps : steps_fit (shape_next c t.counter).threes t.z 4 (take 16 whole) ≡ true
       first_steps = ap (steps_fit (shape_next c t.counter).threes t.z 4) first ∙ w.steps

@@ -5,6 +5,7 @@
 // How does it work? A state is the settings as they were asked for, the scrambler's register and Z. `answers` has the tests and the answers
 // that both directions share.
 #![tactic(auto)]
+
 pub mod answers;
 pub mod starts;
 pub mod states;

@@ -4,14 +4,14 @@ use borrow.Author.Tests.{eq-eqb, ne_eqb}
 use Rattle.coder.proofs.answers.is_exact.Statement.{statement}
 use Rattle.coder.proofs.answers.is_exact.Tie as tie
 
+returns-then-bits-c : tie.Need-returns-then-bits-c
+returns-then-bits-c c = rw (ne_eqb _ _ c.if-bits-c.true)
+
+overflow_mul-result : tie.Need-overflow_mul-result
+overflow_mul-result c = search rules
+
 returns : tie.Need-returns
-returns c = rw (ne_eqb _ _ c.if1.true)
-
-mul-result : tie.Need-overflow-mul-result
-mul-result c = search rules
-
-returns-2 : tie.Need-returns-2
-returns-2 c = rw (eq-eqb _ _ c.before.if1.false)
+returns c = rw (eq-eqb _ _ c.if-bits-c.false)
 
 pub is_exact_spec : {M : Type 1} → statement M
-is_exact_spec = tie.close (tie.spec returns mul-result returns-2)
+is_exact_spec = tie.close (tie.spec returns-then-bits-c overflow_mul-result returns)

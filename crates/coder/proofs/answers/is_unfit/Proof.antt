@@ -3,11 +3,11 @@ use borrow.Author.Tests.{le-leb, lt-leb}
 use Rattle.coder.proofs.answers.is_unfit.Statement.{statement}
 use Rattle.coder.proofs.answers.is_unfit.Tie as tie
 
-returns : tie.Need-returns
-returns c = rw (le-leb _ _ c.if1.true)
+returns-then-st-ge8388608 : tie.Need-returns-then-st-ge8388608
+returns-then-st-ge8388608 c = rw (le-leb _ _ c.if-st-ge8388608.true)
 
-returns-2 : tie.Need-returns-2
-returns-2 c = rw (lt-leb _ _ c.before.if1.false)
+returns : tie.Need-returns
+returns c = rw (lt-leb _ _ c.if-st-ge8388608.false)
 
 pub is_unfit_spec : {M : Type 1} → statement M
-is_unfit_spec = tie.close (tie.spec returns returns-2)
+is_unfit_spec = tie.close (tie.spec returns-then-st-ge8388608 returns)

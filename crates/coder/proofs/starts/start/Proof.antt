@@ -5,19 +5,19 @@ use Rattle.coder.specs.State.{started_of}
 use Rattle.coder.proofs.starts.start.Statement.{statement}
 use Rattle.coder.proofs.starts.start.Tie as tie
 
-state-refusal-requires : tie.Need-state-refusal-requires
-state-refusal-requires c κs = search rules
+state_refusal-refusal-requires : tie.Need-state_refusal-refusal-requires
+state_refusal-refusal-requires c κs = search rules
 
-no-state-requires : tie.Need-no-state-requires
-no-state-requires c κs = search rules
+no_state-zeros-requires : tie.Need-no_state-zeros-requires
+no_state-zeros-requires c κs = search rules
+
+returns-then-refusal-ne0 : tie.Need-returns-then-refusal-ne0
+unfolding started_of
+returns-then-refusal-ne0 c = let k = c.before in rw (c.no_state-zeros.ensures, ← k.state_refusal-refusal.ensures, ne_eqb _ _ k.if-refusal-ne0.true)
 
 returns : tie.Need-returns
 unfolding started_of
-returns c = let k = c.before in rw (c.no-state.ensures, ← k.before.state-refusal.ensures, ne_eqb _ _ k.if1.true)
-
-returns-2 : tie.Need-returns-2
-unfolding started_of
-returns-2 c = rw (← c.before.state-refusal.ensures, c.if1.false)
+returns c = rw (← c.state_refusal-refusal.ensures, c.if-refusal-ne0.false)
 
 pub start_spec : {M : Type 1} → statement M
-start_spec = tie.close (tie.spec state-refusal-requires no-state-requires returns returns-2)
+start_spec = tie.close (tie.spec state_refusal-refusal-requires no_state-zeros-requires returns-then-refusal-ne0 returns)

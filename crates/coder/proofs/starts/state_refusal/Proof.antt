@@ -6,48 +6,45 @@ use Rattle.laws.specs.Choice.{refusal}
 use Rattle.coder.proofs.starts.state_refusal.Statement.{statement}
 use Rattle.coder.proofs.starts.state_refusal.Tie as tie
 
-work-out-requires : tie.Need-work-out-requires
-work-out-requires c κs = search rules
+work_out-w-requires : tie.Need-work_out-w-requires
+work_out-w-requires c κs = search rules
 
-enum_told : tie.Need-enum-told
-enum_told c = search rules
+enum_told-1 : tie.Need-enum_told-1
+enum_told-1 c = search rules
 
-enum-told-2 : tie.Need-enum-told-2
-enum-told-2 c = search rules
+enum_told-in_default : tie.Need-enum_told-in_default
+enum_told-in_default c = search rules
 
-refusal-of-requires : tie.Need-refusal-of-requires
-refusal-of-requires c κs = search rules
+refusal_of-requires : tie.Need-refusal_of-requires
+refusal_of-requires c κs = search rules
+
+returns-in_default : tie.Need-returns-in_default
+returns-in_default c =
+    let told = c.in_default.is in
+    rw (← c.work_out-w.ensures, told) (rw told at c.refusal_of.ensures)
+
+is_unfit-requires : tie.Need-is_unfit-requires
+is_unfit-requires c κs = search rules
+
+returns-then-is_unfit : tie.Need-returns-then-is_unfit
+unfolding refusal
+returns-then-is_unfit c =
+    rw (← c.work_out-w.ensures, c.in-Accepted.is, sym c.is_unfit.ensures ∙ c.if-is_unfit.true)
 
 returns : tie.Need-returns
+unfolding refusal
 returns c =
-    let k = c.before in
-    let told = k.enum-told2.given.1 in
-    rw (← k.before.before.work-out.ensures, told) (rw told at c.refusal-of.ensures)
-
-is-unfit-requires : tie.Need-is-unfit-requires
-is-unfit-requires c κs = search rules
-
-returns-2 : tie.Need-returns-2
-unfolding refusal
-returns-2 c =
-    let k = c.before.before in
-    rw (← k.before.before.work-out.ensures, k.enum_told.given.1, sym c.before.is-unfit.ensures ∙ c.if1.true)
-
-returns-3 : tie.Need-returns-3
-unfolding refusal
-returns-3 c =
-    let k = c.before.before in
-    rw (← k.before.before.work-out.ensures, k.enum_told.given.1, sym c.before.is-unfit.ensures ∙ c.if1.false)
+    rw (← c.work_out-w.ensures, c.in-Accepted.is, sym c.is_unfit.ensures ∙ c.if-is_unfit.false)
 
 pub state_refusal_spec : {M : Type 1} → statement M
 state_refusal_spec =
     tie.close
     (tie.spec
-    work-out-requires
-    enum_told
-    enum-told-2
-    refusal-of-requires
-    returns
-    is-unfit-requires
-    returns-2
-    returns-3)
+    work_out-w-requires
+    enum_told-1
+    enum_told-in_default
+    refusal_of-requires
+    returns-in_default
+    is_unfit-requires
+    returns-then-is_unfit
+    returns)
