@@ -5,6 +5,7 @@
 // How does it work? The settings and the counts are worked out once in a call. Then the mapping frames go one after the other, straight
 // into the lent buffer: bits are scrambled, S gives the rings, and these and the other bits the labels. What it must answer `coder` says.
 #![tactic(auto)]
+
 pub mod entry;
 pub mod frames;
 

@@ -11,103 +11,86 @@ use Rattle.coder.proofs.WaysOut.{settings-way, refused-way, coded-way, writes-ou
 use Rattle.writer.proofs.entry.write.Statement.{statement}
 use Rattle.writer.proofs.entry.write.Tie as tie
 
-work-out-requires : tie.Need-work-out-requires
-work-out-requires c κs = search rules
+work_out-w-requires : tie.Need-work_out-w-requires
+work_out-w-requires c κs = search rules
 
-enum-known-w : tie.Need-enum-known-w
-enum-known-w c = search rules
+enum_known-w : tie.Need-enum_known-w
+enum_known-w c = search rules
 
-enum_told : tie.Need-enum-told
-enum_told c = search rules
+enum_told-1 : tie.Need-enum_told-1
+enum_told-1 c = search rules
 
-refusal-of-requires : tie.Need-refusal-of-requires
-refusal-of-requires c κs = search rules
+refusal_of-requires : tie.Need-refusal_of-requires
+refusal_of-requires c κs = search rules
 
 refused-requires : tie.Need-refused-requires
 refused-requires c κs = search rules
 
--- what the function is given, from the settings worked out
-abbrev start_of : tie.After-work-out → tie.Start
-start_of k = let asked = k.before in asked.before.before.before
-
 -- the settings were refused
-denied : (k : tie.After-enum-told) → worked_in (start_of k.before.before).args.st ≡ Refused k.enum_told.given.0.0
-denied k = sym k.before.before.work-out.ensures ∙ k.enum_told.given.1
+denied : (k : tie.In_default) → worked_in k.args.st ≡ Refused k.in_default.field-0
+denied k = sym k.work_out-w.ensures ∙ k.in_default.is
 
-returns : tie.Need-returns
-returns c =
-    let k = c.before.before in
-    let a = (start_of k.before.before).args in
-    rw (c.refused.ensures, c.before.refusal-of.ensures, k.enum_told.given.1)
-    (writes-out a.st a.bits.now a.out.now _ _ (settings-way _ _ _ _ _ _ (denied k) refl))
+returns-in_default : tie.Need-returns-in_default
+returns-in_default c =
+    let a = c.args in
+    rw (c.refused.ensures, c.refusal_of.ensures, c.in_default.is)
+    (writes-out a.st a.bits.now a.out.now _ _ (settings-way _ _ _ _ _ _ (denied c.before.before) refl))
 
 -- the settings that were worked out
-abbrev worked-out : tie.After-known-told → tie.After-work-out
-worked-out k = k.before.before.before
+accepted : (k : tie.In-Accepted) → worked_in k.args.st ≡ Accepted k.in-Accepted.c
+accepted k = sym k.work_out-w.ensures ∙ k.in-Accepted.is
 
-accepted : (k : tie.After-known-told) → worked_in (start_of (worked-out k)).args.st ≡ Accepted k.before.w.given.0.0
-accepted k = sym (worked-out k).work-out.ensures ∙ k.before.w.given.1
+write_refusal-refusal-requires : tie.Need-write_refusal-refusal-requires
+write_refusal-refusal-requires c κs = (accepted-sound c.args.st.asked _ (accepted c)).frames-most
 
-write-refusal-requires : tie.Need-write-refusal-requires
-write-refusal-requires c κs = (accepted-sound (start_of (worked-out c)).args.st.asked _ (accepted c)).frames-most
+refused-requires-then-refusal-ne0 : tie.Need-refused-requires-then-refusal-ne0
+refused-requires-then-refusal-ne0 c κs = search rules
 
-refused-requires-2 : tie.Need-refused-requires-2
-refused-requires-2 c κs = search rules
-
-returns-2 : tie.Need-returns-2
-returns-2 c =
-    let k = c.before.before.before in
-    let a = (start_of (worked-out k)).args in
-    rw c.refused2.ensures
+returns-then-refusal-ne0 : tie.Need-returns-then-refusal-ne0
+returns-then-refusal-ne0 c =
+    let a = c.args in
+    rw c.refused-then-refusal-ne0.ensures
     (writes-out a.st a.bits.now a.out.now _ _
-    (refused-way _ _ _ _ _ _ _ (accepted k) c.before.before.write-refusal.ensures c.before.if1.true))
+    (refused-way _ _ _ _ _ _ _ (accepted c.before.before.before) c.write_refusal-refusal.ensures c.if-refusal-ne0.true))
 
 -- no test refuses
-none :
-    (k : tie.Else1)
-    → let t = k.before.before in
-    let a = (start_of (worked-out t)).args in
-    write_refusal (Accepted t.before.w.given.0.0) a.st a.bits.now (length a.out.now) ≡ 0
-none k = sym k.before.write-refusal.ensures ∙ k.if1.false
+none : (k : tie.Else-refusal-ne0) → write_refusal (Accepted k.in-Accepted.c) k.args.st k.args.bits.now (length k.args.out.now) ≡ 0
+none k = sym k.write_refusal-refusal.ensures ∙ k.if-refusal-ne0.false
 
-send-requires : tie.Need-send-requires
-send-requires c κs =
-    let w = c.before.before in
-    let a = (start_of (worked-out w.before)).args in
-    unrefused_sendable a.st a.bits.now a.out.now _ (accepted w.before) (none c.before)
+send-moved-requires : tie.Need-send-moved-requires
+send-moved-requires c κs =
+    let a = c.args in
+    unrefused_sendable a.st a.bits.now a.out.now _ (accepted c.before.before.before) (none c.before)
 
 done-requires : tie.Need-done-requires
 done-requires c κs = search rules
 
-same_length : tie.Need-same-length
-same_length c = search rules
+shape_of-out : tie.Need-shape_of-out
+shape_of-out c = search rules
 
-returns-3 : tie.Need-returns-3
-returns-3 c =
-    let m = c.before.before.before in
-    let sent = m.send in
-    let e = m.before.before in
-    let w = e.before in
-    let a = (start_of (worked-out w.before)).args in
-    let settings = w.before.before.w.given.0.0 in
-    let next = ap₂ (coded settings a.st) sent.ensures.1.0 sent.ensures.1.1 in
+returns : tie.Need-returns
+returns c =
+    let sent = c.send-moved in
+    let e = c.before.before.before.before.before in
+    let a = c.args in
+    let next = ap₂ (coded c.in-Accepted.c a.st) sent.ensures.1.0 sent.ensures.1.1 in
     writes-out a.st a.bits.now a.out.now _ _
-    (coded-way _ _ _ _ _ _ _ _ (accepted w.before) (none e) (c.done.ensures ∙ next) sent.ensures.0)
+    (coded-way _ _ _ _ _ _ _ _ (accepted e.before.before) (none e) (c.done.ensures ∙ next) sent.ensures.0)
 
 pub write_spec : {M : Type 1} → statement M
 write_spec =
     tie.close
     (tie.spec
-    work-out-requires
-    enum-known-w
-    enum_told
-    refusal-of-requires
+    work_out-w-requires
+    enum_known-w
+    enum_told-1
+    refusal_of-requires
     refused-requires
-    returns
-    write-refusal-requires
-    refused-requires-2
-    returns-2
-    send-requires
+    returns-in_default
+    write_refusal-refusal-requires
+    refused-requires-then-refusal-ne0
+    returns-then-refusal-ne0
+    send-moved-requires
     done-requires
-    same_length
-    returns-3)
+    shape_of-out
+    returns)

@@ -9,67 +9,67 @@ use Rattle.coder.proofs.Refusing.{write_seven, write-eight, write_nine, write-ze
 use Rattle.writer.proofs.entry.write_refusal.Statement.{statement}
 use Rattle.writer.proofs.entry.write_refusal.Tie as tie
 
-is-unfit-requires : tie.Need-is-unfit-requires
-is-unfit-requires c κs = tt
+is_unfit-requires : tie.Need-is_unfit-requires
+is_unfit-requires c κs = tt
 
 -- from each test back to the function's start
-abbrev start_of : tie.After-is-unfit → tie.Start
+abbrev start_of : tie.After-is_unfit → tie.Start
 start_of k = k.before.before
 
-abbrev seven-of : tie.Else2 → tie.Else1
+abbrev seven-of : tie.Else-not-is_exact → tie.Else-is_unfit
 seven-of k = k.before.before
 
-abbrev given : tie.Else1 → tie.Start
+abbrev given : tie.Else-is_unfit → tie.Start
 given k = start_of k.before
 
-returns : tie.Need-returns
-returns c =
+returns-then-is_unfit : tie.Need-returns-then-is_unfit
+returns-then-is_unfit c =
     let a = (start_of c.before).args in
-    write_seven a.c a.st a.bits.now a.lent (sym c.before.is-unfit.ensures ∙ c.if1.true)
+    write_seven a.c a.st a.bits.now a.lent (sym c.is_unfit.ensures ∙ c.if-is_unfit.true)
 
-is-exact-requires : tie.Need-is-exact-requires
-is-exact-requires c κs = (given c).requires
+is_exact-requires : tie.Need-is_exact-requires
+is_exact-requires c κs = (given c).requires
 
 -- the state is fit
-fit : (k : tie.Else1) → unfit (given k).args.st ≡ false
-fit k = sym k.before.is-unfit.ensures ∙ k.if1.false
+fit : (k : tie.Else-is_unfit) → unfit (given k).args.st ≡ false
+fit k = sym k.is_unfit.ensures ∙ k.if-is_unfit.false
 
-returns-2 : tie.Need-returns-2
-returns-2 c =
+returns-then-not-is_exact : tie.Need-returns-then-not-is_exact
+returns-then-not-is_exact c =
     let k = c.before.before in
     let a = (given k).args in
-    write-eight a.c a.st a.bits.now a.lent (fit k) (sym c.before.is-exact.ensures ∙ not-true _ c.if2.true)
+    write-eight a.c a.st a.bits.now a.lent (fit k) (sym c.is_exact.ensures ∙ c.if-not-is_exact.true)
 
-all-bits-requires : tie.Need-all-bits-requires
-all-bits-requires c κs = tt
+all_bits-requires : tie.Need-all_bits-requires
+all_bits-requires c κs = tt
 
 -- and the lengths are exact
-exactly : (k : tie.Else2) → let a = (given (seven-of k)).args in exact a.c (length a.bits.now) a.lent ≡ true
-exactly k = sym k.before.is-exact.ensures ∙ not-false _ k.if2.false
+exactly : (k : tie.Else-not-is_exact) → let a = (given (seven-of k)).args in exact a.c (length a.bits.now) a.lent ≡ true
+exactly k = sym k.is_exact.ensures ∙ k.if-not-is_exact.false
 
-returns-3 : tie.Need-returns-3
-returns-3 c =
+returns-then-not-all_bits : tie.Need-returns-then-not-all_bits
+returns-then-not-all_bits c =
     let k = c.before.before in
     let f = seven-of k in
     let a = (given f).args in
-    write_nine a.c a.st a.bits.now a.lent (fit f) (exactly k) (sym c.before.all-bits.ensures ∙ not-true _ c.if3.true)
+    write_nine a.c a.st a.bits.now a.lent (fit f) (exactly k) (sym c.all_bits.ensures ∙ c.if-not-all_bits.true)
 
-returns-4 : tie.Need-returns-4
-returns-4 c =
+returns : tie.Need-returns
+returns c =
     let k = c.before.before in
     let f = seven-of k in
     let a = (given f).args in
     write-zero a.c a.st a.bits.now a.lent (fit f) (exactly k)
-    (sym c.before.all-bits.ensures ∙ not-false _ c.if3.false)
+    (sym c.all_bits.ensures ∙ c.if-not-all_bits.false)
 
 pub write_refusal_spec : {M : Type 1} → statement M
 write_refusal_spec =
     tie.close
     (tie.spec
-    is-unfit-requires
-    returns
-    is-exact-requires
-    returns-2
-    all-bits-requires
-    returns-3
-    returns-4)
+    is_unfit-requires
+    returns-then-is_unfit
+    is_exact-requires
+    returns-then-not-is_exact
+    all_bits-requires
+    returns-then-not-all_bits
+    returns)

@@ -16,192 +16,192 @@ use Rattle.writer.proofs.Sends.{part-sent-labels, part-sent-register, part-sent-
 use Rattle.writer.proofs.frames.send.Statement.{statement}
 use Rattle.writer.proofs.frames.send.Tie as tie
 
-abbrev invariant-loop : tie.invariant-loop
-invariant-loop c bits out₀ counts frames moved₀ counter₀ at₀ k₀ out moved counter at k = PartSent c moved₀ bits out moved counter at k
+abbrev invariant-loop-k : tie.invariant-loop-k
+invariant-loop-k c bits out₀ counts frames moved₀ counter₀ at₀ k₀ out moved counter at k = PartSent c moved₀ bits out moved counter at k
 
-abbrev decreases-loop : tie.decreases-loop
-decreases-loop c bits out₀ counts frames moved₀ counter₀ at₀ k₀ out moved counter at k = frames - k
+abbrev decreases-loop-k : tie.decreases-loop-k
+decreases-loop-k c bits out₀ counts frames moved₀ counter₀ at₀ k₀ out moved counter at k = frames - k
 
 -- from the counts, and from the loop's head, back to the function's start
-abbrev given : tie.After-counts-of invariant-loop decreases-loop → tie.Start invariant-loop decreases-loop
+abbrev given : tie.After-counts_of-counts invariant-loop-k decreases-loop-k → tie.Start invariant-loop-k decreases-loop-k
 given k = k.before.before.before.before
 
-abbrev start_of : tie.At-loop invariant-loop decreases-loop → tie.Start invariant-loop decreases-loop
+abbrev start_of : tie.At-loop-k invariant-loop-k decreases-loop-k → tie.Start invariant-loop-k decreases-loop-k
 start_of a = given a.before
 
 -- the settings are sound
-sound : (s : tie.Start invariant-loop decreases-loop) → Sound s.args.c
+sound : (s : tie.Start invariant-loop-k decreases-loop-k) → Sound s.args.c
 sound s = let st = s.args.st in accepted-sound st.asked s.args.c s.requires.worked
 
-rings-of-shaping-requires : tie.Need-rings-of-shaping-requires invariant-loop decreases-loop
-rings-of-shaping-requires c κs = tt
+rings_of_shaping-requires : tie.Need-rings_of_shaping-requires invariant-loop-k decreases-loop-k
+rings_of_shaping-requires c κs = tt
 
-counts-of-requires : tie.Need-counts-of-requires invariant-loop decreases-loop
-counts-of-requires c κs =
+counts_of-counts-requires : tie.Need-counts_of-counts-requires invariant-loop-k decreases-loop-k
+counts_of-counts-requires c κs =
     let r = (sound c.before.before.before).rings in
-    rw c.rings-of-shaping.ensures (record { low = r.some; high = r.most })
+    rw c.rings_of_shaping.ensures (record { low = r.some; high = r.most })
 
 -- the counts are those of M
 counted :
-    (k : tie.After-counts-of invariant-loop decreases-loop)
-    → CountsOf (ring_count (given k).args.c) k.counts_of.result
-counted k = rw k.before.rings-of-shaping.ensures at k.counts_of.ensures
+    (k : tie.After-counts_of-counts invariant-loop-k decreases-loop-k)
+    → CountsOf (ring_count (given k).args.c) k.counts_of-counts.result
+counted k = rw k.rings_of_shaping.ensures at k.counts_of-counts.ensures
 
-loop-holds : tie.Need-loop-init invariant-loop decreases-loop
-loop-holds c =
+loop-k-init : tie.Need-loop-k-init invariant-loop-k decreases-loop-k
+loop-k-init c =
     let s = given c in
     part-sent_none s.args.c _ s.args.bits.now s.args.out.now (sound s)
-    (s.pre.size ∙ (sound s).user_is) s.pre.labels s.pre.held s.pre.turn
+    (s.requires.size ∙ (sound s).user_is) s.requires.labels s.requires.held s.requires.turn
 
-next-of-requires : tie.Need-next-of-requires invariant-loop decreases-loop
-next-of-requires c κs =
+next_of-next-requires : tie.Need-next_of-next-requires invariant-loop-k decreases-loop-k
+next_of-next-requires c κs =
     let l = c.before in
-    stepping (start_of l).args.c (sound (start_of l)) l.loop.counter l.loop.invariant.below
+    stepping (start_of l).args.c (sound (start_of l)) l.loop-k.counter l.loop-k.invariant.below
 
 -- its bits are there, and no position is large
 there :
-    (k : tie.After-next-of invariant-loop decreases-loop)
+    (k : tie.After-next_of-next invariant-loop-k decreases-loop-k)
     → let l = k.before.before in
-    l.loop.at + k.next_of.result.size ≤ length (start_of l).args.bits.now
-there k = omega (arith, k.next_of.ensures.size, next-there k.before.before.loop.invariant k.before.loop-test.true)
+    l.loop-k.at + k.next_of-next.result.size ≤ length (start_of l).args.bits.now
+there k = omega (arith, k.next_of-next.ensures.size, next-there k.loop-k.invariant k.loop-k-test.true)
 
 small :
-    (k : tie.After-next-of invariant-loop decreases-loop)
-    → k.before.before.loop.at + k.next_of.result.size ≤ 1248
+    (k : tie.After-next_of-next invariant-loop-k decreases-loop-k)
+    → k.loop-k.at + k.next_of-next.result.size ≤ 1248
 small k =
     let s = start_of k.before.before in
-    omega (arith, there k, s.pre.size, (sound s).user_is, (sound s).bits_most)
+    omega (arith, there k, s.requires.size, (sound s).user_is, (sound s).bits_most)
 
 -- and so are the places of its labels
-labels-there : (k : tie.In-loop invariant-loop decreases-loop) → 16 * k.before.loop.k + 16 ≤ length k.before.loop.out
-labels-there k = omega (arith, part-sent-length k.before.loop.invariant, k.loop-test.true)
+labels-there : (k : tie.In-loop-k invariant-loop-k decreases-loop-k) → 16 * k.loop-k.k + 16 ≤ length k.loop-k.out
+labels-there k = omega (arith, part-sent-length k.loop-k.invariant, k.loop-k-test.true)
 
-labels-small : (k : tie.In-loop invariant-loop decreases-loop) → 16 * k.before.loop.k + 16 ≤ 256
-labels-small k = omega (arith, k.loop-test.true, (sound (start_of k.before)).frames-most)
+labels-small : (k : tie.In-loop-k invariant-loop-k decreases-loop-k) → 16 * k.loop-k.k + 16 ≤ 256
+labels-small k = omega (arith, k.loop-k-test.true, (sound (start_of k.before)).frames-most)
 
 -- the next frame, before the rows are lent
-abbrev next_of : tie.After-struct-known invariant-loop decreases-loop → tie.After-next-of invariant-loop decreases-loop
+abbrev next_of : tie.After-struct_known-1 invariant-loop-k decreases-loop-k → tie.After-next_of-next invariant-loop-k decreases-loop-k
 next_of k = k.before.before.before.before.before
 
-add-send-frame : tie.Need-overflow-add-send-frame invariant-loop decreases-loop
-add-send-frame c = omega (arith, small (next_of c))
+overflow_add-at : tie.Need-overflow_add-at invariant-loop-k decreases-loop-k
+overflow_add-at c = omega (arith, small (next_of c))
 
-sub-send-frame : tie.Need-overflow-sub-send-frame invariant-loop decreases-loop
-sub-send-frame c = omega arith
+slice_bounds-send_frame-count : tie.Need-slice_bounds-send_frame-count invariant-loop-k decreases-loop-k
+slice_bounds-send_frame-count c = omega arith
 
-part-send-frame-start : tie.Need-slice-bounds-send-frame-start invariant-loop decreases-loop
-part-send-frame-start c = omega arith
+slice_bounds-send_frame-start : tie.Need-slice_bounds-send_frame-start invariant-loop-k decreases-loop-k
+slice_bounds-send_frame-start c = omega arith
 
-part-send-frame-end : tie.Need-slice-bounds-send-frame-end invariant-loop decreases-loop
-part-send-frame-end c = there (next_of c)
+slice_bounds-send_frame-end : tie.Need-slice_bounds-send_frame-end invariant-loop-k decreases-loop-k
+slice_bounds-send_frame-end c = there (next_of c)
 
-mul-send-frame : tie.Need-overflow-mul-send-frame invariant-loop decreases-loop
-mul-send-frame c = omega (arith, labels-small (next_of c.before).before)
+overflow_mul-k : tie.Need-overflow_mul-k invariant-loop-k decreases-loop-k
+overflow_mul-k c = omega (arith, labels-small (next_of c.before).before)
 
-mul-send-frame-2 : tie.Need-overflow-mul-send-frame-2 invariant-loop decreases-loop
-mul-send-frame-2 c = omega (arith, labels-small (next_of c.before).before)
+overflow_mul-k-in-loop-k : tie.Need-overflow_mul-k-in-loop-k invariant-loop-k decreases-loop-k
+overflow_mul-k-in-loop-k c = omega (arith, labels-small (next_of c.before).before)
 
-add-send-frame-2 : tie.Need-overflow-add-send-frame-2 invariant-loop decreases-loop
-add-send-frame-2 c = omega (arith, labels-small (next_of c.before).before)
+overflow_add-k : tie.Need-overflow_add-k invariant-loop-k decreases-loop-k
+overflow_add-k c = omega (arith, labels-small (next_of c.before).before)
 
-mul-send-frame-3 : tie.Need-overflow-mul-send-frame-3 invariant-loop decreases-loop
-mul-send-frame-3 c = omega (arith, labels-small (next_of c.before).before)
+offset_bounds-out-k : tie.Need-offset_bounds-out-k invariant-loop-k decreases-loop-k
+offset_bounds-out-k c = omega (arith, labels-small (next_of c.before).before)
 
-sub-send-frame-2 : tie.Need-overflow-sub-send-frame-2 invariant-loop decreases-loop
-sub-send-frame-2 c = omega arith
+slice_bounds-send_frame-count-in-loop-k : tie.Need-slice_bounds-send_frame-count-in-loop-k invariant-loop-k decreases-loop-k
+slice_bounds-send_frame-count-in-loop-k c = omega arith
 
-part-send-frame-start-2 : tie.Need-slice-bounds-send-frame-start-2 invariant-loop decreases-loop
-part-send-frame-start-2 c = omega arith
+slice_bounds-send_frame-start-in-loop-k : tie.Need-slice_bounds-send_frame-start-in-loop-k invariant-loop-k decreases-loop-k
+slice_bounds-send_frame-start-in-loop-k c = omega arith
 
-part-send-frame-end-2 : tie.Need-slice-bounds-send-frame-end-2 invariant-loop decreases-loop
-part-send-frame-end-2 c = labels-there (next_of c.before).before
+slice_bounds-send_frame-end-in-loop-k : tie.Need-slice_bounds-send_frame-end-in-loop-k invariant-loop-k decreases-loop-k
+slice_bounds-send_frame-end-in-loop-k c = labels-there (next_of c.before).before
 
 -- from a to a + n there are n
 width : (a n : ℕ) → a + n - a ≡ n
 width a n = omega arith
 
-send-frame-requires : tie.Need-send-frame-requires invariant-loop decreases-loop
-send-frame-requires c κs =
+send_frame-moved-requires : tie.Need-send_frame-moved-requires invariant-loop-k decreases-loop-k
+send_frame-moved-requires c κs =
     let k = next_of c.before.before in
     let i = k.before in
     let l = i.before in
     let s = start_of l in
     let is_m = (counted l.before).of in
     let rows = (counted l.before).rows in
-    let lent = mid_len (16 * l.loop.k) (16 * l.loop.k + 16) l.loop.out (labels-there i) ∙ width (16 * l.loop.k) 16 in (
+    let lent = mid_len (16 * l.loop-k.k) (16 * l.loop-k.k + 16) l.loop-k.out (labels-there i) ∙ width (16 * l.loop-k.k) 16 in (
       rw is_m rows,
-      rw (width l.loop.at k.next_of.result.size)
-          (frame_sendable l.loop.inv i.loop-test.taken _ k.next_of.result.shape
-          k.next_of.ensures.size k.next_of.ensures.shape
-          l.before.counts_of.result.m _ (sound s) is_m s.pre.binary lent),
+      rw (width l.loop-k.at k.next_of-next.result.size)
+          (frame_sendable l.loop-k.invariant i.loop-k-test.true _ k.next_of-next.result.shape
+          k.next_of-next.ensures.size k.next_of-next.ensures.shape
+          l.counts_of-counts.result.m _ (sound s) is_m s.requires.binary lent),
     )
 
 -- the frame that was sent, and the next one as it stood before it
-abbrev sent-of : tie.After-struct-known2 invariant-loop decreases-loop → tie.After-send-frame invariant-loop decreases-loop
+abbrev sent-of : tie.After-struct_known-in-loop-k-1 invariant-loop-k decreases-loop-k → tie.After-send_frame-moved invariant-loop-k decreases-loop-k
 sent-of k = k.before.before.before
 
-abbrev frame-of : tie.After-struct-known2 invariant-loop decreases-loop → tie.After-next-of invariant-loop decreases-loop
+abbrev frame-of : tie.After-struct_known-in-loop-k-1 invariant-loop-k decreases-loop-k → tie.After-next_of-next invariant-loop-k decreases-loop-k
 frame-of k = next_of (sent-of k).before.before.before
 
-add_at : tie.Need-overflow-add-at invariant-loop decreases-loop
-add_at c = omega (arith, small (frame-of c))
+overflow_add-at-in-loop-k : tie.Need-overflow_add-at-in-loop-k invariant-loop-k decreases-loop-k
+overflow_add-at-in-loop-k c = omega (arith, small (frame-of c))
 
-add-k : tie.Need-overflow-add-k invariant-loop decreases-loop
-add-k c = omega (arith, labels-small (frame-of c).before)
+overflow_add-k-in-loop-k : tie.Need-overflow_add-k-in-loop-k invariant-loop-k decreases-loop-k
+overflow_add-k-in-loop-k c = omega (arith, labels-small (frame-of c).before)
 
-loop-less : tie.Need-loop-smaller invariant-loop decreases-loop
-loop-less c = omega arith
+loop-k-smaller : tie.Need-loop-k-smaller invariant-loop-k decreases-loop-k
+loop-k-smaller c = omega arith
 
-loop-again : tie.Need-loop-preserved invariant-loop decreases-loop
-loop-again c =
-    let r = (sent-of c).send-frame in
+loop-k-preserved : tie.Need-loop-k-preserved invariant-loop-k decreases-loop-k
+loop-k-preserved c =
+    let r = (sent-of c).send_frame-moved in
     let k = frame-of c in
     let i = k.before in
     let l = i.before in
-    let f = k.next_of.result.size in
-    let sent = rw (width l.loop.at f) at r.ensures in
-    let labels = r.last.1.1.1.1.1.1.1.1.0 in
+    let f = k.next_of-next.result.size in
+    let sent = rw (width l.loop-k.at f) at r.ensures in
+    let labels = r.new.out in
     let sixteen = sent-sixteen r.ensures in
-    part-sent-more l.loop.inv i.loop-test.taken f k.next_of.result.shape
-    k.next_of.ensures.size k.next_of.ensures.shape
-    l.before.counts_of.result.m (counted l.before).of r.result labels sent
-    _ _ _ (sound (start_of l)) k.next_of.ensures.counted refl
-    (put_loan l.loop.out (16 * l.loop.k) (16 * l.loop.k + 16) labels (omega arith))
+    part-sent-more l.loop-k.invariant i.loop-k-test.true f k.next_of-next.result.shape
+    k.next_of-next.ensures.size k.next_of-next.ensures.shape
+    l.counts_of-counts.result.m (counted l.before).of r.result labels sent
+    _ _ _ (sound (start_of l)) k.next_of-next.ensures.counted refl
+    (put_loan l.loop-k.out (16 * l.loop-k.k) (16 * l.loop-k.k + 16) labels (omega arith))
 
-same_length : tie.Need-same-length invariant-loop decreases-loop
-same_length c = part-sent-length c.before.loop.invariant ∙ sym (start_of c.before).pre.labels
+shape_of-out : tie.Need-shape_of-out invariant-loop-k decreases-loop-k
+shape_of-out c = part-sent-length c.loop-k.invariant ∙ sym (start_of c.before).requires.labels
 
-returns : tie.Need-returns invariant-loop decreases-loop
+returns : tie.Need-returns invariant-loop-k decreases-loop-k
 returns c =
-    let h = c.before.loop.invariant in
-    let all = c.loop-test.false in
+    let h = c.loop-k.invariant in
+    let all = c.loop-k-test.false in
     (part-sent-labels h all, (part-sent-register h all, part-sent-turned h all))
 
 pub send_spec : {M : Type 1} → statement M
 send_spec =
     tie.close
     (tie.spec
-    invariant-loop
-    decreases-loop
-    rings-of-shaping-requires
-    counts-of-requires
-    loop-holds
-    next-of-requires
-    add-send-frame
-    sub-send-frame
-    part-send-frame-start
-    part-send-frame-end
-    mul-send-frame
-    mul-send-frame-2
-    add-send-frame-2
-    mul-send-frame-3
-    sub-send-frame-2
-    part-send-frame-start-2
-    part-send-frame-end-2
-    send-frame-requires
-    add_at
-    add-k
-    loop-less
-    loop-again
-    same_length
+    invariant-loop-k
+    decreases-loop-k
+    rings_of_shaping-requires
+    counts_of-counts-requires
+    loop-k-init
+    next_of-next-requires
+    overflow_add-at
+    slice_bounds-send_frame-count
+    slice_bounds-send_frame-start
+    slice_bounds-send_frame-end
+    overflow_mul-k
+    overflow_mul-k-in-loop-k
+    overflow_add-k
+    offset_bounds-out-k
+    slice_bounds-send_frame-count-in-loop-k
+    slice_bounds-send_frame-start-in-loop-k
+    slice_bounds-send_frame-end-in-loop-k
+    send_frame-moved-requires
+    overflow_add-at-in-loop-k
+    overflow_add-k-in-loop-k
+    loop-k-smaller
+    loop-k-preserved
+    shape_of-out
     returns)

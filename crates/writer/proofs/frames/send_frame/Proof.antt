@@ -18,88 +18,88 @@ use Rattle.writer.proofs.Sends.{front_scrambled, rings-small}
 use Rattle.writer.proofs.frames.send_frame.Statement.{statement}
 use Rattle.writer.proofs.frames.send_frame.Tie as tie
 
-room-requires : tie.Need-room-requires
-room-requires c κs = search rules
+room-space-requires : tie.Need-room-space-requires
+room-space-requires c κs = search rules
 
-slice-aggregate-scramble-part : tie.Need-slice-aggregate-scramble-part
-slice-aggregate-scramble-part c = search rules
+slice_bounds-scramble_part-end : tie.Need-slice_bounds-scramble_part-end
+slice_bounds-scramble_part-end c = search rules
 
-scramble-part-requires : tie.Need-scramble-part-requires
-scramble-part-requires c κs = search rules
+scramble_part-register-requires : tie.Need-scramble_part-register-requires
+scramble_part-register-requires c κs = search rules
 
-array-share-prefix-space : tie.Need-array-share-prefix-space
-array-share-prefix-space c = search rules
+slice_bounds-space-end : tie.Need-slice_bounds-space-end
+slice_bounds-space-end c = search rules
 
 -- from each call back to the one before it
-abbrev start_of : tie.After-scramble-part → tie.Start
+abbrev start_of : tie.After-scramble_part-register → tie.Start
 start_of k = k.before.before.before.before.before
 
-abbrev scrambled-of : tie.After-value-at → tie.After-scramble-part
+abbrev scrambled-of : tie.After-value_at-s → tie.After-scramble_part-register
 scrambled-of k = k.before.before.before
 
-abbrev ringed-of : tie.After-write-frame-arg2 → tie.After-rings-of
-ringed-of k = k.before.before.before
+abbrev ringed-of : tie.After-write_frame-arg-2-1 → tie.After-rings_of-rings
+ringed-of k = k.before.before
 
 -- the front of the space, once the bits are scrambled into it
-abbrev front : tie.After-scramble-part → List ℕ
-front k = take (length (start_of k).args.bits.now) k.scramble-part.new.1.1.1.0
+abbrev front : tie.After-scramble_part-register → List ℕ
+front k = take (length (start_of k).args.bits.now) k.scramble_part-register.new.out
 
-front_is : (k : tie.After-scramble-part) → let a = (start_of k).args in front k ≡ scramble a.role a.moved.register a.bits.now
-front_is k = front_scrambled _ _ _ _ _ _ k.scramble-part.ensures
+front_is : (k : tie.After-scramble_part-register) → let a = (start_of k).args in front k ≡ scramble a.role a.moved.register a.bits.now
+front_is k = front_scrambled _ _ _ _ _ _ k.scramble_part-register.ensures
 
 -- it has as many bits as the frame
-front_length : (k : tie.After-scramble-part) → length (front k) ≡ length (start_of k).args.bits.now
+front_length : (k : tie.After-scramble_part-register) → length (front k) ≡ length (start_of k).args.bits.now
 front_length k = ap length (front_is k) ∙ length-scramble _ _ _
 
-front-bits : (k : tie.After-scramble-part) → Bits (front k)
+front-bits : (k : tie.After-scramble_part-register) → Bits (front k)
 front-bits k = rw (front_is k) (bits-scramble _ _ _)
 
-slice-aggregate-scrambled : tie.Need-slice-aggregate-scrambled
-slice-aggregate-scrambled c = sym (front_length c.before.before)
+slice_bounds-scrambled-end : tie.Need-slice_bounds-scrambled-end
+slice_bounds-scrambled-end c = sym (front_length c.before.before)
 
-value-at-requires : tie.Need-value-at-requires
+value_at-s-requires : tie.Need-value_at-s-requires
 unfolding frame_length
-value-at-requires c κs =
+value_at-s-requires c κs =
     let k = c.before.before in
     let p = (start_of k).requires.1 in
     (omega (arith, front_length k, p.size), p.limits.few, front-bits k)
 
 -- S has room among the M^8 sets
-number-below : (k : tie.After-value-at) → k.value-at.result < (start_of (scrambled-of k)).args.m ^ 8
+number-below : (k : tie.After-value_at-s) → k.value_at-s.result < (start_of (scrambled-of k)).args.m ^ 8
 number-below k =
     let s = start_of (scrambled-of k) in
     let f = scrambled-of k in
-    omega (arith, k.value-at.ensures, value-take-below s.args.shape.shell (front f) (front-bits f), s.pre.1.room)
+    omega (arith, k.value_at-s.ensures, value-take-below s.args.shape.shell (front f) (front-bits f), s.requires.1.room)
 
-rings-of-requires : tie.Need-rings-of-requires
-rings-of-requires c κs = ((start_of (scrambled-of c)).requires.0, number-below c)
+rings_of-rings-requires : tie.Need-rings_of-rings-requires
+rings_of-rings-requires c κs = ((start_of (scrambled-of c)).requires.0, number-below c)
 
 -- the rings are those of the frame
 rings-are :
-    (k : tie.After-rings-of)
+    (k : tie.After-rings_of-rings)
     → let f = scrambled-of k.before in
-    k.rings-of.result.ring ≡ frame_rings (start_of f).args.m (start_of f).args.shape (front f)
+    k.rings_of-rings.result.ring ≡ frame_rings (start_of f).args.m (start_of f).args.shape (front f)
 rings-are k =
     let m = (start_of (scrambled-of k.before)).args.m in
-    k.rings-of.ensures ∙ ap (λ (S : ℕ). as_list (rings_of m S)) k.before.value-at.ensures
+    k.rings_of-rings.ensures ∙ ap (λ (S : ℕ). as_list (rings_of m S)) k.value_at-s.ensures
 
-write-frame-requires : tie.Need-write-frame-requires
-write-frame-requires c κs =
+write_frame-z-requires : tie.Need-write_frame-z-requires
+write_frame-z-requires c κs =
     let k = ringed-of c in
     let f = scrambled-of k.before in
     let s = start_of f in
-    let p = s.pre.1 in
+    let p = s.requires.1 in
     record {
       limits = p.limits;
       turn = p.turn;
-      small = rw k.rings-of.ensures (rings-small s.args.m _ s.pre.0.eights.known.high (number-below k.before));
+      small = rw k.rings_of-rings.ensures (rings-small s.args.m _ s.requires.0.eights.known.high (number-below k.before));
       binary = front-bits f;
       size = front_length f ∙ p.size;
       sixteen = p.sixteen;
     }
 
-same_length : tie.Need-same-length
-same_length c = search rules
+shape_of-out : tie.Need-shape_of-out
+shape_of-out c = search rules
 
 returns : tie.Need-returns
 unfolding frame_labels frame_turned
@@ -108,22 +108,22 @@ returns c =
     let k = ringed-of w.before in
     let f = scrambled-of k.before in
     record {
-      labels = rw (rings-are k, front_is f) at w.write-frame.ensures.0;
-      register = f.scramble-part.ensures.held;
-      z = rw (rings-are k, front_is f) at w.write-frame.ensures.1;
+      labels = rw (rings-are k, front_is f) at w.write_frame-z.ensures.0;
+      register = f.scramble_part-register.ensures.held;
+      z = rw (rings-are k, front_is f) at w.write_frame-z.ensures.1;
     }
 
 pub send_frame_spec : {M : Type 1} → statement M
 send_frame_spec =
     tie.close
     (tie.spec
-    room-requires
-    slice-aggregate-scramble-part
-    scramble-part-requires
-    array-share-prefix-space
-    slice-aggregate-scrambled
-    value-at-requires
-    rings-of-requires
-    write-frame-requires
-    same_length
+    room-space-requires
+    slice_bounds-scramble_part-end
+    scramble_part-register-requires
+    slice_bounds-space-end
+    slice_bounds-scrambled-end
+    value_at-s-requires
+    rings_of-rings-requires
+    write_frame-z-requires
+    shape_of-out
     returns)
