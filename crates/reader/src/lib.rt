@@ -6,6 +6,7 @@
 // frame, and the pass that ranks the rings keeps their numbers. Then the mapping frames are read one after the other, straight into the
 // lent buffer. What it must answer `coder` says.
 #![tactic(auto)]
+
 pub mod check;
 pub mod entry;
 pub mod frames;

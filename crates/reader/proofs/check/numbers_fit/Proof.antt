@@ -21,214 +21,214 @@ use Rattle.reader.proofs.Ranking.{FirstRanked, ranked_none, ranked-more, ranked-
 use Rattle.reader.proofs.check.numbers_fit.Statement.{statement}
 use Rattle.reader.proofs.check.numbers_fit.Tie as tie
 
-abbrev invariant-loop : tie.invariant-loop
-invariant-loop c labels numbers₀ counts counter₀ k₀ numbers counter k =
+abbrev invariant-loop-k : tie.invariant-loop-k
+invariant-loop-k c labels numbers₀ counts counter₀ k₀ numbers counter k =
     (k ≤ c.frames)
     × (counter < c.frames)
     × (numbers_fit c (c.frames - k) (left_at labels k counter 0) ≡ numbers_fit c c.frames (receiving_of 0 labels))
     × FirstRanked c labels numbers k
 
-abbrev decreases-loop : tie.decreases-loop
-decreases-loop c labels numbers₀ counts counter₀ k₀ numbers counter k = c.frames - k
+abbrev decreases-loop-k : tie.decreases-loop-k
+decreases-loop-k c labels numbers₀ counts counter₀ k₀ numbers counter k = c.frames - k
 
 -- the function's start, from the loop's head and from a turn
-abbrev given : tie.At-loop invariant-loop decreases-loop → tie.Start invariant-loop decreases-loop
+abbrev given : tie.At-loop-k invariant-loop-k decreases-loop-k → tie.Start invariant-loop-k decreases-loop-k
 given k = k.before.before.before
 
-abbrev start_of : tie.In-loop invariant-loop decreases-loop → tie.Start invariant-loop decreases-loop
+abbrev start_of : tie.In-loop-k invariant-loop-k decreases-loop-k → tie.Start invariant-loop-k decreases-loop-k
 start_of k = given k.before
 
-sound : (k : tie.Start invariant-loop decreases-loop) → Sound k.args.c
+sound : (k : tie.Start invariant-loop-k decreases-loop-k) → Sound k.args.c
 sound k = sound_of k.requires.0.settled
 
-loop-holds : tie.Need-loop-init invariant-loop decreases-loop
-loop-holds c =
+loop-k-init : tie.Need-loop-k-init invariant-loop-k decreases-loop-k
+loop-k-init c =
     let s = c.before.before in
     let a = s.args in
     let found = ranked_none a.c a.labels.now a.numbers.now s.requires.1.1 in
     (omega arith, omega (arith, (sound s).frames-least), rw sub-zero, found)
 
-next-of-requires : tie.Need-next-of-requires invariant-loop decreases-loop
-next-of-requires c κs = let s = start_of c in stepping s.args.c (sound s) c.before.loop.counter c.before.loop.invariant.1
+next_of-next-requires : tie.Need-next_of-next-requires invariant-loop-k decreases-loop-k
+next_of-next-requires c κs = let s = start_of c in stepping s.args.c (sound s) c.loop-k.counter c.loop-k.invariant.1
 
 -- the labels of this frame are there
-room : (k : tie.In-loop invariant-loop decreases-loop) → 16 * k.before.loop.k + 16 ≤ 256
-room k = let s = sound (start_of k) in omega (arith, s.frames-most, k.loop-test.true)
+room : (k : tie.In-loop-k invariant-loop-k decreases-loop-k) → 16 * k.loop-k.k + 16 ≤ 256
+room k = let s = sound (start_of k) in omega (arith, s.frames-most, k.loop-k-test.true)
 
-mul-rings-read : tie.Need-overflow-mul-rings-read invariant-loop decreases-loop
-mul-rings-read c = omega (arith, room c.before)
+overflow_mul-k : tie.Need-overflow_mul-k invariant-loop-k decreases-loop-k
+overflow_mul-k c = omega (arith, room c.before)
 
-mul-rings-read-2 : tie.Need-overflow-mul-rings-read-2 invariant-loop decreases-loop
-mul-rings-read-2 c = omega (arith, room c.before)
+overflow_mul-k-in-loop-k : tie.Need-overflow_mul-k-in-loop-k invariant-loop-k decreases-loop-k
+overflow_mul-k-in-loop-k c = omega (arith, room c.before)
 
-add-rings-read : tie.Need-overflow-add-rings-read invariant-loop decreases-loop
-add-rings-read c = omega (arith, room c.before)
+overflow_add-k : tie.Need-overflow_add-k invariant-loop-k decreases-loop-k
+overflow_add-k c = omega (arith, room c.before)
 
-mul-rings-read-3 : tie.Need-overflow-mul-rings-read-3 invariant-loop decreases-loop
-mul-rings-read-3 c = omega (arith, room c.before)
+offset_bounds-labels-k : tie.Need-offset_bounds-labels-k invariant-loop-k decreases-loop-k
+offset_bounds-labels-k c = omega (arith, room c.before)
 
-sub-rings-read : tie.Need-overflow-sub-rings-read invariant-loop decreases-loop
-sub-rings-read c = omega arith
+slice_bounds-rings_read-count : tie.Need-slice_bounds-rings_read-count invariant-loop-k decreases-loop-k
+slice_bounds-rings_read-count c = omega arith
 
-part-rings-read-start : tie.Need-slice-bounds-rings-read-start invariant-loop decreases-loop
-part-rings-read-start c = omega arith
+slice_bounds-rings_read-start : tie.Need-slice_bounds-rings_read-start invariant-loop-k decreases-loop-k
+slice_bounds-rings_read-start c = omega arith
 
-part-rings-read-end : tie.Need-slice-bounds-rings-read-end invariant-loop decreases-loop
-part-rings-read-end c = let t = c.before in omega (arith, (start_of t).requires.0.count, t.loop-test.true)
+slice_bounds-rings_read-end : tie.Need-slice_bounds-rings_read-end invariant-loop-k decreases-loop-k
+slice_bounds-rings_read-end c = let t = c.before in omega (arith, (start_of t).requires.0.count, t.loop-k-test.true)
 
 -- and in their ranges
 ranges :
-    (k : tie.In-loop invariant-loop decreases-loop)
+    (k : tie.In-loop-k invariant-loop-k decreases-loop-k)
     → let a = (start_of k).args in
-    in_range (ring_count a.c) a.c.uncoded 4 (sixteen_at a.labels.now k.before.loop.k) ≡ true
-ranges k = ranging_frame (start_of k).requires.0 k.before.loop.k k.loop-test.true
+    in_range (ring_count a.c) a.c.uncoded 4 (sixteen_at a.labels.now k.loop-k.k) ≡ true
+ranges k = ranging_frame (start_of k).requires.0 k.loop-k.k k.loop-k-test.true
 
-rings-read-requires : tie.Need-rings-read-requires invariant-loop decreases-loop
-rings-read-requires c κs =
+rings_read-ring-requires : tie.Need-rings_read-ring-requires invariant-loop-k decreases-loop-k
+rings_read-ring-requires c κs =
     let t = c.before.before in
     let s = start_of t in
     let f = sound s in
     rings-fit (ring_count s.args.c) _ _ (omega (arith, f.rings.most)) f.uncoded-most
-    (ranging_sixteen s.pre.0 t.before.loop.k t.loop-test.true) (ranges t)
+    (ranging_sixteen s.requires.0 t.loop-k.k t.loop-k-test.true) (ranges t)
 
 -- the rings, before the rows are lent, and the next frame before them
-abbrev read_of : tie.After-number-of-arg3 invariant-loop decreases-loop → tie.After-rings-read invariant-loop decreases-loop
-read_of k = k.before.before.before.before
+abbrev read_of : tie.After-number_of-arg-in-loop-k-2-1 invariant-loop-k decreases-loop-k → tie.After-rings_read-ring invariant-loop-k decreases-loop-k
+read_of k = k.before.before.before
 
-abbrev nexted : tie.After-number-of-arg3 invariant-loop decreases-loop → tie.After-next-of invariant-loop decreases-loop
+abbrev nexted : tie.After-number_of-arg-in-loop-k-2-1 invariant-loop-k decreases-loop-k → tie.After-next_of-next invariant-loop-k decreases-loop-k
 nexted k = (read_of k).before.before
 
-number-of-requires : tie.Need-number-of-requires invariant-loop decreases-loop
-number-of-requires c κs =
+number_of-number-requires : tie.Need-number_of-number-requires invariant-loop-k decreases-loop-k
+number_of-number-requires c κs =
     let t = (nexted c).before in
     let s = start_of t in
-    let counted = s.pre.1.0 in
+    let counted = s.requires.1.0 in
     let a = s.args in
-    let below = taken-below a.c a.labels.now t.before.loop.k _ _ counted.of (read_of c).rings-read.ensures (ranges t) in
+    let below = taken-below a.c a.labels.now t.loop-k.k _ _ counted.of (read_of c).rings_read-ring.ensures (ranges t) in
     (rw counted.of counted.rows, below)
 
 -- the number is that of the frame's rings
 number-found :
-    (k : tie.After-number-of invariant-loop decreases-loop)
+    (k : tie.After-number_of-number invariant-loop-k decreases-loop-k)
     → let t = (nexted k.before).before in
     let a = (start_of t).args in
-    k.number_of_lem.result ≡ number_at a.c a.labels.now t.before.loop.k
+    k.number_of-number.result ≡ number_at a.c a.labels.now t.loop-k.k
 number-found k =
     let t = (nexted k.before).before in
     let s = start_of t in
     let a = s.args in
-    let read = (read_of k.before).rings-read.ensures in
-    k.number_of_lem.ensures ∙ taken-number a.c a.labels.now t.before.loop.k _ _ s.pre.1.0.of read
+    let read = (read_of k.before).rings_read-ring.ensures in
+    k.number_of-number.ensures ∙ taken-number a.c a.labels.now t.loop-k.k _ _ s.requires.1.0.of read
 
-number-fits-requires : tie.Need-number-fits-requires invariant-loop decreases-loop
-number-fits-requires c κs =
-    let n = nexted c.before in
+number_fits-requires : tie.Need-number_fits-requires invariant-loop-k decreases-loop-k
+number_fits-requires c κs =
+    let n = nexted c.before.before in
     let s = start_of n.before in
-    rw n.next_of.ensures.shape (next_fits s.args.c (sound s) n.before.before.loop.counter).limits.few
+    rw n.next_of-next.ensures.shape (next_fits s.args.c (sound s) n.loop-k.counter).limits.few
 
 -- the test of this frame, and what is left
 here :
-    (k : tie.After-number-fits invariant-loop decreases-loop)
-    → let n = nexted k.before.before in
+    (k : tie.After-number_fits invariant-loop-k decreases-loop-k)
+    → let n = nexted k.before.before.before in
     let t = n.before in
     let a = (start_of t).args in
-    let l = t.before.loop in
+    let l = t.loop-k in
     numbers_fit a.c a.c.frames (receiving_of 0 a.labels.now)
     ≡ (k.number_fits.result
-    && numbers_fit a.c (a.c.frames - (l.k + 1)) (left_at a.labels.now (l.k + 1) n.next_of.result.counter 0))
+    && numbers_fit a.c (a.c.frames - (l.k + 1)) (left_at a.labels.now (l.k + 1) n.next_of-next.result.counter 0))
 unfolding number_fits
 here k =
-    let n = nexted k.before.before in
+    let n = nexted k.before.before.before in
     let t = n.before in
     let s = start_of t in
     let a = s.args in
-    let l = t.before.loop in
-    let e = n.next_of.ensures in
+    let l = t.loop-k in
+    let e = n.next_of-next.ensures in
     let read = shape-number a.c (sound s) a.labels.now l.k l.counter (ring_count a.c) _ refl e.shape in
-    sym l.inv.2
-    ∙ number-turn a.c a.labels.now l.k l.counter _ t.loop-test.taken e.counted (ring_count a.c) _ _
-    (k.number_fits.ensures ∙ ap (shell_holds n.next_of.result.shape) (number-found k.before ∙ sym read)) refl e.shape
+    sym l.invariant.2
+    ∙ number-turn a.c a.labels.now l.k l.counter _ t.loop-k-test.true e.counted (ring_count a.c) _ _
+    (k.number_fits.ensures ∙ ap (shell_holds n.next_of-next.result.shape) (number-found k.before.before ∙ sym read)) refl e.shape
 
-same_length : tie.Need-same-length invariant-loop decreases-loop
-same_length c =
-    let t = (nexted c.before.before.before).before in
-    t.before.loop.inv.3.size ∙ sym (start_of t).pre.1.1
+shape_of-numbers-then-not-number_fits : tie.Need-shape_of-numbers-then-not-number_fits invariant-loop-k decreases-loop-k
+shape_of-numbers-then-not-number_fits c =
+    let t = (nexted c.before.before.before.before).before in
+    t.loop-k.invariant.3.size ∙ sym (start_of t).requires.1.1
 
-returns : tie.Need-returns invariant-loop decreases-loop
-returns c =
+returns-then-not-number_fits : tie.Need-returns-then-not-number_fits invariant-loop-k decreases-loop-k
+returns-then-not-number_fits c =
     let k = c.before in
-    let a = (start_of (nexted k.before.before).before).args in
-    let bad = not-true k.number_fits.result c.if1.true in (
+    let a = (start_of (nexted k.before.before.before).before).args in
+    let bad = c.if-not-number_fits.true in (
       λ z. sym (number-any a.c a.c.frames a.labels.now 0 z 0 ∙ (here k ∙ rw bad)),
       λ good. absurd (false≢true good),
     )
 
-mul-numbers : tie.Need-overflow-mul-numbers invariant-loop decreases-loop
-mul-numbers c = omega (arith, room (nexted c.before.before.before).before)
+offset_bounds-numbers-k : tie.Need-offset_bounds-numbers-k invariant-loop-k decreases-loop-k
+offset_bounds-numbers-k c = omega (arith, room (nexted c.before.before.before.before).before)
 
-slice-write-numbers : tie.Need-slice-write-numbers invariant-loop decreases-loop
-slice-write-numbers c =
-    let t = (nexted c.before.before.before).before in
-    omega (arith, room t, t.before.loop.inv.3.size)
+bounds-numbers-k : tie.Need-bounds-numbers-k invariant-loop-k decreases-loop-k
+bounds-numbers-k c =
+    let t = (nexted c.before.before.before.before).before in
+    omega (arith, room t, t.loop-k.invariant.3.size)
 
-add-k : tie.Need-overflow-add-k invariant-loop decreases-loop
-add-k c = omega (arith, room (nexted c.before.before.before).before)
+overflow_add-k-in-loop-k : tie.Need-overflow_add-k-in-loop-k invariant-loop-k decreases-loop-k
+overflow_add-k-in-loop-k c = omega (arith, room (nexted c.before.before.before.before).before)
 
-loop-less : tie.Need-loop-smaller invariant-loop decreases-loop
-loop-less c = omega (arith, (nexted c.before.before.before).before.loop-test.taken)
+loop-k-smaller : tie.Need-loop-k-smaller invariant-loop-k decreases-loop-k
+loop-k-smaller c = omega (arith, (nexted c.before.before.before.before).loop-k-test.true)
 
-loop-again : tie.Need-loop-preserved invariant-loop decreases-loop
-loop-again c =
+loop-k-preserved : tie.Need-loop-k-preserved invariant-loop-k decreases-loop-k
+loop-k-preserved c =
     let k = c.before in
-    let n = nexted k.before.before in
+    let n = nexted k.before.before.before in
     let t = n.before in
     let s = start_of t in
     let a = s.args in
-    let l = t.before.loop in (
-      omega (arith, t.loop-test.taken),
-      rw n.next_of.ensures.counted (counter-stays a.c.frames a.c.step l.counter (sound s).step-most l.inv.1),
-      sym (here k ∙ rw (not-false k.number_fits.result c.if1.false)),
-      ranked-more a.c a.labels.now l.numbers l.k _ l.inv.3 (omega (arith, room t)) (number-found k.before),
+    let l = t.loop-k in (
+      omega (arith, t.loop-k-test.true),
+      rw n.next_of-next.ensures.counted (counter-stays a.c.frames a.c.step l.counter (sound s).step-most l.invariant.1),
+      sym (here k ∙ rw (c.if-not-number_fits.false)),
+      ranked-more a.c a.labels.now l.numbers l.k _ l.invariant.3 (omega (arith, room t)) (number-found k.before.before),
     )
 
-same-length-2 : tie.Need-same-length-2 invariant-loop decreases-loop
-same-length-2 c = c.before.loop.invariant.3.size ∙ sym (given c.before).pre.1.1
+shape_of-numbers : tie.Need-shape_of-numbers invariant-loop-k decreases-loop-k
+shape_of-numbers c = c.loop-k.invariant.3.size ∙ sym (given c.before).requires.1.1
 
-returns-2 : tie.Need-returns-2 invariant-loop decreases-loop
-returns-2 c =
+returns : tie.Need-returns invariant-loop-k decreases-loop-k
+returns c =
     let s = given c.before in
     let a = s.args in
-    let l = c.before.loop in (
+    let l = c.loop-k in (
       λ z.
-          sym (number_none a.c a.labels.now l.k l.counter 0 c.loop-test.false)
+          sym (number_none a.c a.labels.now l.k l.counter 0 c.loop-k-test.false)
           ∙ (l.invariant.2 ∙ number-any a.c a.c.frames a.labels.now 0 0 z),
-      λ good. ranked-all a.c (sound s) a.labels.now l.numbers l.k l.invariant.3 c.loop-test.false,
+      λ good. ranked-all a.c (sound s) a.labels.now l.numbers l.k l.invariant.3 c.loop-k-test.false,
     )
 
 pub numbers_fit_spec : {M : Type 1} → statement M
 numbers_fit_spec =
     tie.close
     (tie.spec
-    invariant-loop
-    decreases-loop
-    loop-holds
-    next-of-requires
-    mul-rings-read
-    mul-rings-read-2
-    add-rings-read
-    mul-rings-read-3
-    sub-rings-read
-    part-rings-read-start
-    part-rings-read-end
-    rings-read-requires
-    number-of-requires
-    number-fits-requires
-    same_length
-    returns
-    mul-numbers
-    slice-write-numbers
-    add-k
-    loop-less
-    loop-again
-    same-length-2
-    returns-2)
+    invariant-loop-k
+    decreases-loop-k
+    loop-k-init
+    next_of-next-requires
+    overflow_mul-k
+    overflow_mul-k-in-loop-k
+    overflow_add-k
+    offset_bounds-labels-k
+    slice_bounds-rings_read-count
+    slice_bounds-rings_read-start
+    slice_bounds-rings_read-end
+    rings_read-ring-requires
+    number_of-number-requires
+    number_fits-requires
+    shape_of-numbers-then-not-number_fits
+    returns-then-not-number_fits
+    offset_bounds-numbers-k
+    bounds-numbers-k
+    overflow_add-k-in-loop-k
+    loop-k-smaller
+    loop-k-preserved
+    shape_of-numbers
+    returns)

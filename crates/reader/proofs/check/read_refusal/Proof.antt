@@ -17,157 +17,157 @@ use Rattle.reader.proofs.check.read_refusal.Statement.{statement}
 use Rattle.reader.proofs.check.read_refusal.Tie as tie
 
 -- from the test of 11 back to those of 10, 8 and 7, and to the function's start
-abbrev ten-of : tie.After-numbers-fit → tie.Else3
+abbrev ten-of : tie.After-numbers_fit → tie.Else-not-all_in_range
 ten-of k = k.before.before
 
-abbrev eight-of : tie.Else3 → tie.Else2
+abbrev eight-of : tie.Else-not-all_in_range → tie.Else-not-is_exact
 eight-of k = k.before.before
 
-abbrev seven-of : tie.Else2 → tie.Else1
+abbrev seven-of : tie.Else-not-is_exact → tie.Else-is_unfit
 seven-of k = k.before.before
 
-abbrev start_of : tie.Else1 → tie.Start
+abbrev start_of : tie.Else-is_unfit → tie.Start
 start_of k = k.before.before.before.before
 
 -- what is known after each test that passes
 settled : (k : tie.Start) → Settled k.args.c
 settled k = settled_in k.args.st k.args.c k.requires.0
 
-fit : (k : tie.Else1) → unfit (start_of k).args.st ≡ false
-fit k = sym k.before.is-unfit.ensures ∙ k.if1.false
+fit : (k : tie.Else-is_unfit) → unfit (start_of k).args.st ≡ false
+fit k = sym k.is_unfit.ensures ∙ k.if-is_unfit.false
 
-exactly : (k : tie.Else2) → let a = (start_of (seven-of k)).args in exact a.c a.lent (length a.labels.now) ≡ true
-exactly k = sym k.before.is-exact.ensures ∙ not-false _ k.if2.false
+exactly : (k : tie.Else-not-is_exact) → let a = (start_of (seven-of k)).args in exact a.c a.lent (length a.labels.now) ≡ true
+exactly k = sym k.is_exact.ensures ∙ k.if-not-is_exact.false
 
-ranging : (k : tie.Else3) → let a = (start_of (seven-of (eight-of k))).args in Ranging a.c a.labels.now
+ranging : (k : tie.Else-not-all_in_range) → let a = (start_of (seven-of (eight-of k))).args in Ranging a.c a.labels.now
 ranging k =
     let s = start_of (seven-of (eight-of k)) in
     let a = s.args in
     record {
       settled = settled s;
       count = (passes-exact a.c a.lent (length a.labels.now) (ap not (exactly (eight-of k)))).1;
-      ranges = sym k.before.all-in-range.ensures ∙ not-false _ k.if3.false;
+      ranges = sym k.all_in_range.ensures ∙ k.if-not-all_in_range.false;
     }
 
 -- from the test of 12 back to that of 11
-abbrev eleven-of : tie.Else4 → tie.After-numbers-fit
+abbrev eleven-of : tie.Else-not-numbers_fit → tie.After-numbers_fit
 eleven-of k = k.before.before.before
 
 numbers :
-    (k : tie.Else4)
+    (k : tie.Else-not-numbers_fit)
     → let a = (start_of (seven-of (eight-of (ten-of (eleven-of k))))).args in
     numbers_fit a.c a.c.frames (receiving_of a.st.z a.labels.now) ≡ true
 numbers k =
     let n = eleven-of k in
     let a = (start_of (seven-of (eight-of (ten-of n)))).args in
-    sym (n.numbers_fit.ensures.0 a.st.z) ∙ not-false _ k.if4.false
+    sym (n.numbers_fit.ensures.0 a.st.z) ∙ k.if-not-numbers_fit.false
 
-is-unfit-requires : tie.Need-is-unfit-requires
-is-unfit-requires c κs = search rules
+is_unfit-requires : tie.Need-is_unfit-requires
+is_unfit-requires c κs = search rules
 
-returns : tie.Need-returns
-returns c =
+returns-then-is_unfit : tie.Need-returns-then-is_unfit
+returns-then-is_unfit c =
     let k = c.before in
-    let a = k.before.before.before.args in (
-      read_seven a.c a.st a.labels.now a.lent (sym k.is-unfit.ensures ∙ c.if1.true),
+    let a = k.args in (
+      read_seven a.c a.st a.labels.now a.lent (sym k.is_unfit.ensures ∙ c.if-is_unfit.true),
       λ done. absurd (omega arith),
     )
 
-is-exact-requires : tie.Need-is-exact-requires
-is-exact-requires c κs = (sound_of (settled (start_of c))).frames-most
+is_exact-requires : tie.Need-is_exact-requires
+is_exact-requires c κs = (sound_of (settled (start_of c))).frames-most
 
-returns-2 : tie.Need-returns-2
-returns-2 c =
+returns-then-not-is_exact : tie.Need-returns-then-not-is_exact
+returns-then-not-is_exact c =
     let k = c.before in
     let a = (start_of k.before).args in (
-      read-eight a.c a.st a.labels.now a.lent (fit k.before) (sym k.is-exact.ensures ∙ not-true _ c.if2.true),
+      read-eight a.c a.st a.labels.now a.lent (fit k.before) (sym k.is_exact.ensures ∙ c.if-not-is_exact.true),
       λ done. absurd (omega arith),
     )
 
-all-in-range-requires : tie.Need-all-in-range-requires
-all-in-range-requires c κs =
+all_in_range-requires : tie.Need-all_in_range-requires
+all_in_range-requires c κs =
     let s = start_of (seven-of c) in
     let a = s.args in
     record { settled = settled s; count = (passes-exact a.c a.lent (length a.labels.now) (ap not (exactly c))).1 }
 
-returns-3 : tie.Need-returns-3
-returns-3 c =
+returns-then-not-all_in_range : tie.Need-returns-then-not-all_in_range
+returns-then-not-all_in_range c =
     let k = c.before in
     let x = k.before in
     let a = (start_of (seven-of x)).args in (
       read_ten a.c a.st a.labels.now a.lent (fit (seven-of x)) (exactly x)
-          (sym k.all-in-range.ensures ∙ not-true _ c.if3.true),
+          (sym k.all_in_range.ensures ∙ c.if-not-all_in_range.true),
       λ done. absurd (omega arith),
     )
 
-numbers-fit-requires : tie.Need-numbers-fit-requires
-numbers-fit-requires c κs = let r = c.before in (ranging r, (start_of (seven-of (eight-of r))).requires.1)
+numbers_fit-requires : tie.Need-numbers_fit-requires
+numbers_fit-requires c κs = let r = c.before in (ranging r, (start_of (seven-of (eight-of r))).requires.1)
 
-same_length : tie.Need-same-length
-same_length c = search rules
+shape_of-numbers-then-not-numbers_fit : tie.Need-shape_of-numbers-then-not-numbers_fit
+shape_of-numbers-then-not-numbers_fit c = search rules
 
-returns-4 : tie.Need-returns-4
-returns-4 c =
+returns-then-not-numbers_fit : tie.Need-returns-then-not-numbers_fit
+returns-then-not-numbers_fit c =
     let k = c.before.before.before in
     let r = ten-of k in
     let x = eight-of r in
     let a = (start_of (seven-of x)).args in (
       read_eleven a.c a.st a.labels.now a.lent (fit (seven-of x)) (exactly x) (ranging r).ranges
-          (sym (k.numbers_fit.ensures.0 a.st.z) ∙ not-true _ c.if4.true),
+          (sym (k.numbers_fit.ensures.0 a.st.z) ∙ c.if-not-numbers_fit.true),
       λ done. absurd (omega arith),
     )
 
-steps-all-fit-requires : tie.Need-steps-all-fit-requires
-steps-all-fit-requires c κs =
+steps_all_fit-requires : tie.Need-steps_all_fit-requires
+steps_all_fit-requires c κs =
     let r = ten-of (eleven-of c) in
     let f = seven-of (eight-of r) in
     (ranging r, (passes-fit (start_of f).args.st (fit f)).1)
 
-same-length-2 : tie.Need-same-length-2
-same-length-2 c = search rules
+shape_of-numbers-then-not-steps_all_fit : tie.Need-shape_of-numbers-then-not-steps_all_fit
+shape_of-numbers-then-not-steps_all_fit c = search rules
 
-returns-5 : tie.Need-returns-5
-returns-5 c =
+returns-then-not-steps_all_fit : tie.Need-returns-then-not-steps_all_fit
+returns-then-not-steps_all_fit c =
     let k = c.before in
     let n = k.before in
     let r = ten-of (eleven-of n) in
     let x = eight-of r in
     let a = (start_of (seven-of x)).args in (
       read_twelve a.c a.st a.labels.now a.lent (fit (seven-of x)) (exactly x) (ranging r).ranges (numbers n)
-          (sym k.steps-all-fit.ensures ∙ not-true _ c.if5.true),
+          (sym k.steps_all_fit.ensures ∙ c.if-not-steps_all_fit.true),
       λ done. absurd (omega arith),
     )
 
-same-length-3 : tie.Need-same-length-3
-same-length-3 c = search rules
+shape_of-numbers : tie.Need-shape_of-numbers
+shape_of-numbers c = search rules
 
-returns-6 : tie.Need-returns-6
-returns-6 c =
+returns : tie.Need-returns
+returns c =
     let k = c.before in
     let n = k.before in
     let r = ten-of (eleven-of n) in
     let x = eight-of r in
     let a = (start_of (seven-of x)).args in (
       read-zero a.c a.st a.labels.now a.lent (fit (seven-of x)) (exactly x) (ranging r).ranges (numbers n)
-          (sym k.steps-all-fit.ensures ∙ not-false _ c.if5.false),
-      λ done. (eleven-of n).numbers_fit.ensures.1 (not-false _ n.if4.false),
+          (sym k.steps_all_fit.ensures ∙ c.if-not-steps_all_fit.false),
+      λ done. (eleven-of n).numbers_fit.ensures.1 (n.if-not-numbers_fit.false),
     )
 
 pub read_refusal_spec : {M : Type 1} → statement M
 read_refusal_spec =
     tie.close
     (tie.spec
-    is-unfit-requires
-    returns
-    is-exact-requires
-    returns-2
-    all-in-range-requires
-    returns-3
-    numbers-fit-requires
-    same_length
-    returns-4
-    steps-all-fit-requires
-    same-length-2
-    returns-5
-    same-length-3
-    returns-6)
+    is_unfit-requires
+    returns-then-is_unfit
+    is_exact-requires
+    returns-then-not-is_exact
+    all_in_range-requires
+    returns-then-not-all_in_range
+    numbers_fit-requires
+    shape_of-numbers-then-not-numbers_fit
+    returns-then-not-numbers_fit
+    steps_all_fit-requires
+    shape_of-numbers-then-not-steps_all_fit
+    returns-then-not-steps_all_fit
+    shape_of-numbers
+    returns)

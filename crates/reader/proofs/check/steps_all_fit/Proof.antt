@@ -19,174 +19,174 @@ use Rattle.reader.proofs.Passes.{turned_is, steps-turn, steps_none}
 use Rattle.reader.proofs.check.steps_all_fit.Statement.{statement}
 use Rattle.reader.proofs.check.steps_all_fit.Tie as tie
 
-abbrev invariant-loop : tie.invariant-loop
-invariant-loop c z labels turned₀ counter₀ k₀ turned counter k =
+abbrev invariant-loop-k : tie.invariant-loop-k
+invariant-loop-k c z labels turned₀ counter₀ k₀ turned counter k =
     (k ≤ c.frames)
     × (counter < c.frames)
     × (turned ≤ 3)
     × (all_steps_fit c (c.frames - k) (left_at labels k counter turned) ≡ all_steps_fit c c.frames (receiving_of z labels))
 
-abbrev decreases-loop : tie.decreases-loop
-decreases-loop c z labels turned₀ counter₀ k₀ turned counter k = c.frames - k
+abbrev decreases-loop-k : tie.decreases-loop-k
+decreases-loop-k c z labels turned₀ counter₀ k₀ turned counter k = c.frames - k
 
 -- the function's start, from a turn
-abbrev start_of : tie.In-loop invariant-loop decreases-loop → tie.Start invariant-loop decreases-loop
+abbrev start_of : tie.In-loop-k invariant-loop-k decreases-loop-k → tie.Start invariant-loop-k decreases-loop-k
 start_of k = k.before.before.before
 
-sound : (k : tie.Start invariant-loop decreases-loop) → Sound k.args.c
+sound : (k : tie.Start invariant-loop-k decreases-loop-k) → Sound k.args.c
 sound k = sound_of k.requires.0.settled
 
-loop-holds : tie.Need-loop-init invariant-loop decreases-loop
-loop-holds c = let s = sound c.before in (omega arith, omega (arith, s.frames-least), c.before.requires.1, rw sub-zero)
+loop-k-init : tie.Need-loop-k-init invariant-loop-k decreases-loop-k
+loop-k-init c = let s = sound c.before in (omega arith, omega (arith, s.frames-least), c.requires.1, rw sub-zero)
 
-next-of-requires : tie.Need-next-of-requires invariant-loop decreases-loop
-next-of-requires c κs = let s = start_of c in stepping s.args.c (sound s) c.before.loop.counter c.before.loop.invariant.1
+next_of-next-requires : tie.Need-next_of-next-requires invariant-loop-k decreases-loop-k
+next_of-next-requires c κs = let s = start_of c in stepping s.args.c (sound s) c.loop-k.counter c.loop-k.invariant.1
 
 -- the labels of this frame are there
-room : (k : tie.In-loop invariant-loop decreases-loop) → 16 * k.before.loop.k + 16 ≤ 256
-room k = let s = sound (start_of k) in omega (arith, s.frames-most, k.loop-test.true)
+room : (k : tie.In-loop-k invariant-loop-k decreases-loop-k) → 16 * k.loop-k.k + 16 ≤ 256
+room k = let s = sound (start_of k) in omega (arith, s.frames-most, k.loop-k-test.true)
 
 -- and in their ranges
 ranges :
-    (k : tie.In-loop invariant-loop decreases-loop)
+    (k : tie.In-loop-k invariant-loop-k decreases-loop-k)
     → let a = (start_of k).args in
-    in_range (ring_count a.c) a.c.uncoded 4 (sixteen_at a.labels.now k.before.loop.k) ≡ true
-ranges k = ranging_frame (start_of k).requires.0 k.before.loop.k k.loop-test.true
+    in_range (ring_count a.c) a.c.uncoded 4 (sixteen_at a.labels.now k.loop-k.k) ≡ true
+ranges k = ranging_frame (start_of k).requires.0 k.loop-k.k k.loop-k-test.true
 
-mul-steps-fit : tie.Need-overflow-mul-steps-fit invariant-loop decreases-loop
-mul-steps-fit c = omega (arith, room c.before)
+overflow_mul-k : tie.Need-overflow_mul-k invariant-loop-k decreases-loop-k
+overflow_mul-k c = omega (arith, room c.before)
 
-mul-steps-fit-2 : tie.Need-overflow-mul-steps-fit-2 invariant-loop decreases-loop
-mul-steps-fit-2 c = omega (arith, room c.before)
+overflow_mul-k-in-loop-k : tie.Need-overflow_mul-k-in-loop-k invariant-loop-k decreases-loop-k
+overflow_mul-k-in-loop-k c = omega (arith, room c.before)
 
-add-steps-fit : tie.Need-overflow-add-steps-fit invariant-loop decreases-loop
-add-steps-fit c = omega (arith, room c.before)
+overflow_add-k : tie.Need-overflow_add-k invariant-loop-k decreases-loop-k
+overflow_add-k c = omega (arith, room c.before)
 
-mul-steps-fit-3 : tie.Need-overflow-mul-steps-fit-3 invariant-loop decreases-loop
-mul-steps-fit-3 c = omega (arith, room c.before)
+offset_bounds-labels-k : tie.Need-offset_bounds-labels-k invariant-loop-k decreases-loop-k
+offset_bounds-labels-k c = omega (arith, room c.before)
 
-sub-steps-fit : tie.Need-overflow-sub-steps-fit invariant-loop decreases-loop
-sub-steps-fit c = omega arith
+slice_bounds-steps_fit-count : tie.Need-slice_bounds-steps_fit-count invariant-loop-k decreases-loop-k
+slice_bounds-steps_fit-count c = omega arith
 
-part-steps-fit-start : tie.Need-slice-bounds-steps-fit-start invariant-loop decreases-loop
-part-steps-fit-start c = omega arith
+slice_bounds-steps_fit-start : tie.Need-slice_bounds-steps_fit-start invariant-loop-k decreases-loop-k
+slice_bounds-steps_fit-start c = omega arith
 
-part-steps-fit-end : tie.Need-slice-bounds-steps-fit-end invariant-loop decreases-loop
-part-steps-fit-end c = omega (arith, (start_of c.before).pre.0.count, c.before.loop-test.true)
+slice_bounds-steps_fit-end : tie.Need-slice_bounds-steps_fit-end invariant-loop-k decreases-loop-k
+slice_bounds-steps_fit-end c = omega (arith, (start_of c.before).requires.0.count, c.loop-k-test.true)
 
-steps-fit-requires : tie.Need-steps-fit-requires invariant-loop decreases-loop
-steps-fit-requires c κs =
+steps_fit-requires : tie.Need-steps_fit-requires invariant-loop-k decreases-loop-k
+steps_fit-requires c κs =
     let t = c.before.before in
     let s = start_of t in
     let a = s.args in
-    let l = t.before.loop in
+    let l = t.loop-k in
     record {
       turn = l.invariant.2;
-      sixteen = ranging_sixteen s.pre.0 l.k t.loop-test.true;
+      sixteen = ranging_sixteen s.requires.0 l.k t.loop-k-test.true;
       turns = turns-small (ring_count a.c) a.c.uncoded (sixteen_at a.labels.now l.k) (ranges t);
     }
 
 -- from the test of a frame back to the frame, and to the turn
-abbrev nexted : tie.After-steps-fit-arg invariant-loop decreases-loop → tie.After-next-of invariant-loop decreases-loop
+abbrev nexted : tie.After-steps_fit-arg-1 invariant-loop-k decreases-loop-k → tie.After-next_of-next invariant-loop-k decreases-loop-k
 nexted k = k.before
 
-abbrev turn-of : tie.After-steps-fit-arg invariant-loop decreases-loop → tie.In-loop invariant-loop decreases-loop
+abbrev turn-of : tie.After-steps_fit-arg-1 invariant-loop-k decreases-loop-k → tie.In-loop-k invariant-loop-k decreases-loop-k
 turn-of k = (nexted k).before
 
 -- the test of this frame, and what is left
 here :
-    (k : tie.After-steps-fit invariant-loop decreases-loop)
+    (k : tie.After-steps_fit invariant-loop-k decreases-loop-k)
     → let t = turn-of k.before in
     let a = (start_of t).args in
-    let l = t.before.loop in
+    let l = t.loop-k in
     all_steps_fit a.c a.c.frames (receiving_of a.z a.labels.now)
-    ≡ (k.steps-fit.result
+    ≡ (k.steps_fit.result
     && all_steps_fit a.c (a.c.frames - (l.k + 1))
-    (left_at a.labels.now (l.k + 1) (nexted k.before).next_of.result.counter (get_or a.labels.now (16 * l.k + 14) 0)))
+    (left_at a.labels.now (l.k + 1) (nexted k.before).next_of-next.result.counter (get_or a.labels.now (16 * l.k + 14) 0)))
 here k =
     let t = turn-of k.before in
     let a = (start_of t).args in
-    let l = t.before.loop in
-    let n = (nexted k.before).next_of.ensures in
-    sym l.inv.3
-    ∙ steps-turn a.c a.labels.now l.k l.counter _ t.loop-test.taken n.counted
-    l.turned _ _ _ k.steps-fit.ensures n.shape refl
+    let l = t.loop-k in
+    let n = (nexted k.before).next_of-next.ensures in
+    sym l.invariant.3
+    ∙ steps-turn a.c a.labels.now l.k l.counter _ t.loop-k-test.true n.counted
+    l.turned _ _ _ k.steps_fit.ensures n.shape refl
 
-returns : tie.Need-returns invariant-loop decreases-loop
-returns c = let k = c.before in sym (here k ∙ rw (not-true k.steps-fit.result c.if1.true))
+returns-then-not-steps_fit : tie.Need-returns-then-not-steps_fit invariant-loop-k decreases-loop-k
+returns-then-not-steps_fit c = let k = c.before in sym (here k ∙ rw (c.if-not-steps_fit.true))
 
-mul-label-at : tie.Need-overflow-mul-label-at invariant-loop decreases-loop
-mul-label-at c = omega (arith, room (turn-of c.before.before))
+overflow_mul-k-in-loop-k-2 : tie.Need-overflow_mul-k-in-loop-k-2 invariant-loop-k decreases-loop-k
+overflow_mul-k-in-loop-k-2 c = omega (arith, room (turn-of c.before.before))
 
-add-label-at : tie.Need-overflow-add-label-at invariant-loop decreases-loop
-add-label-at c = omega (arith, room (turn-of c.before.before))
+overflow_add-k-in-loop-k : tie.Need-overflow_add-k-in-loop-k invariant-loop-k decreases-loop-k
+overflow_add-k-in-loop-k c = omega (arith, room (turn-of c.before.before))
 
-label-at-requires : tie.Need-label-at-requires invariant-loop decreases-loop
-label-at-requires c κs =
+label_at-turned-requires : tie.Need-label_at-turned-requires invariant-loop-k decreases-loop-k
+label_at-turned-requires c κs =
     let t = turn-of c.before.before in
-    omega (arith, (start_of t).pre.0.count, t.loop-test.taken)
+    omega (arith, (start_of t).requires.0.count, t.loop-k-test.true)
 
-add-k : tie.Need-overflow-add-k invariant-loop decreases-loop
-add-k c = omega (arith, room (turn-of c.before.before.before))
+overflow_add-k-in-loop-k-2 : tie.Need-overflow_add-k-in-loop-k-2 invariant-loop-k decreases-loop-k
+overflow_add-k-in-loop-k-2 c = omega (arith, room (turn-of c.before.before.before))
 
-loop-less : tie.Need-loop-smaller invariant-loop decreases-loop
-loop-less c = omega (arith, (turn-of c.before.before.before).loop-test.taken)
+loop-k-smaller : tie.Need-loop-k-smaller invariant-loop-k decreases-loop-k
+loop-k-smaller c = omega (arith, (turn-of c.before.before.before).loop-k-test.true)
 
 -- what is left after this frame
 left :
-    (k : tie.After-label-at invariant-loop decreases-loop)
+    (k : tie.After-label_at-turned invariant-loop-k decreases-loop-k)
     → let f = k.before.before.before in
     let t = turn-of f in
     let a = (start_of t).args in
-    let l = t.before.loop in
+    let l = t.loop-k in
     all_steps_fit a.c (a.c.frames - (l.k + 1))
-    (left_at a.labels.now (l.k + 1) (nexted f).next_of.result.counter k.label_at.result)
+    (left_at a.labels.now (l.k + 1) (nexted f).next_of-next.result.counter k.label_at-turned.result)
     ≡ all_steps_fit a.c a.c.frames (receiving_of a.z a.labels.now)
 left k =
     let f = k.before.before in
-    rw k.label_at.ensures (sym (here f ∙ rw (not-false f.steps-fit.result k.before.if1.false)))
+    rw k.label_at-turned.ensures (sym (here f ∙ rw (k.if-not-steps_fit.false)))
 
-loop-again : tie.Need-loop-preserved invariant-loop decreases-loop
-loop-again c =
+loop-k-preserved : tie.Need-loop-k-preserved invariant-loop-k decreases-loop-k
+loop-k-preserved c =
     let t = turn-of c.before.before.before in
     let s = start_of t in
     let a = s.args in
-    let l = t.before.loop in (
-      omega (arith, t.loop-test.taken),
-      rw (nexted c.before.before.before).next_of.ensures.counted
-          (counter-stays a.c.frames a.c.step l.counter (sound s).step-most l.inv.1),
-      rw (c.label_at.ensures, ← turned_is a.labels.now l.k)
+    let l = t.loop-k in (
+      omega (arith, t.loop-k-test.true),
+      rw (nexted c.before.before.before).next_of-next.ensures.counted
+          (counter-stays a.c.frames a.c.step l.counter (sound s).step-most l.invariant.1),
+      rw (c.label_at-turned.ensures, ← turned_is a.labels.now l.k)
           (turned-small (ring_count a.c) a.c.uncoded (sixteen_at a.labels.now l.k) (ranges t)),
       left c,
     )
 
-returns-2 : tie.Need-returns-2 invariant-loop decreases-loop
-returns-2 c =
-    let a = c.before.before.before.args in
-    let l = c.before.loop in
-    sym (steps_none a.c a.labels.now l.k l.counter l.turned c.loop-test.false) ∙ l.invariant.3
+returns : tie.Need-returns invariant-loop-k decreases-loop-k
+returns c =
+    let a = c.args in
+    let l = c.loop-k in
+    sym (steps_none a.c a.labels.now l.k l.counter l.turned c.loop-k-test.false) ∙ l.invariant.3
 
 pub steps_all_fit_spec : {M : Type 1} → statement M
 steps_all_fit_spec =
     tie.close
     (tie.spec
-    invariant-loop
-    decreases-loop
-    loop-holds
-    next-of-requires
-    mul-steps-fit
-    mul-steps-fit-2
-    add-steps-fit
-    mul-steps-fit-3
-    sub-steps-fit
-    part-steps-fit-start
-    part-steps-fit-end
-    steps-fit-requires
-    returns
-    mul-label-at
-    add-label-at
-    label-at-requires
-    add-k
-    loop-less
-    loop-again
-    returns-2)
+    invariant-loop-k
+    decreases-loop-k
+    loop-k-init
+    next_of-next-requires
+    overflow_mul-k
+    overflow_mul-k-in-loop-k
+    overflow_add-k
+    offset_bounds-labels-k
+    slice_bounds-steps_fit-count
+    slice_bounds-steps_fit-start
+    slice_bounds-steps_fit-end
+    steps_fit-requires
+    returns-then-not-steps_fit
+    overflow_mul-k-in-loop-k-2
+    overflow_add-k-in-loop-k
+    label_at-turned-requires
+    overflow_add-k-in-loop-k-2
+    loop-k-smaller
+    loop-k-preserved
+    returns)

@@ -14,29 +14,29 @@ use Rattle.reader.proofs.Incoming.{part-read_all, part-read-register, part-read-
 use Rattle.reader.proofs.frames.receive.Statement.{statement}
 use Rattle.reader.proofs.frames.receive.Tie as tie
 
-abbrev invariant-loop : tie.invariant-loop
-invariant-loop c labels numbers bits₀ frames moved₀ counter₀ at₀ k₀ bits moved counter at k =
+abbrev invariant-loop-k : tie.invariant-loop-k
+invariant-loop-k c labels numbers bits₀ frames moved₀ counter₀ at₀ k₀ bits moved counter at k =
     PartRead c labels moved₀.z moved₀.register k moved counter at bits
 
-abbrev decreases-loop : tie.decreases-loop
-decreases-loop c labels numbers bits₀ frames moved₀ counter₀ at₀ k₀ bits moved counter at k = frames - k
+abbrev decreases-loop-k : tie.decreases-loop-k
+decreases-loop-k c labels numbers bits₀ frames moved₀ counter₀ at₀ k₀ bits moved counter at k = frames - k
 
 -- the function's start, from the loop's head and from a turn
-abbrev given : tie.At-loop invariant-loop decreases-loop → tie.Start invariant-loop decreases-loop
+abbrev given : tie.At-loop-k invariant-loop-k decreases-loop-k → tie.Start invariant-loop-k decreases-loop-k
 given k = k.before.before.before.before
 
-abbrev start_of : tie.In-loop invariant-loop decreases-loop → tie.Start invariant-loop decreases-loop
+abbrev start_of : tie.In-loop-k invariant-loop-k decreases-loop-k → tie.Start invariant-loop-k decreases-loop-k
 start_of k = given k.before
 
-settled : (k : tie.Start invariant-loop decreases-loop) → Settled k.args.c
+settled : (k : tie.Start invariant-loop-k decreases-loop-k) → Settled k.args.c
 settled k = settled_in k.args.st k.args.c k.requires.0.worked
 
-sound : (k : tie.Start invariant-loop decreases-loop) → Sound k.args.c
+sound : (k : tie.Start invariant-loop-k decreases-loop-k) → Sound k.args.c
 sound k = sound_of (settled k)
 
 -- no frame is done
 none :
-    (k : tie.Start invariant-loop decreases-loop)
+    (k : tie.Start invariant-loop-k decreases-loop-k)
     → let a = k.args in
     PartRead a.c a.labels.now a.st.z a.st.register 0 (record { register = a.st.register; z = a.st.z }) 0 0 a.bits.now
 none k =
@@ -46,144 +46,144 @@ none k =
     (record { size = p.count; ranges = p.ranges; numbers = p.numbers; steps = p.steps; turn = p.turn }) p.held
     (p.size ∙ (sound k).user_is)
 
-loop-holds : tie.Need-loop-init invariant-loop decreases-loop
-loop-holds c = none c.before.before.before
+loop-k-init : tie.Need-loop-k-init invariant-loop-k decreases-loop-k
+loop-k-init c = none c.before.before.before
 
-next-of-requires : tie.Need-next-of-requires invariant-loop decreases-loop
-next-of-requires c κs = let s = start_of c in stepping s.args.c (sound s) c.before.loop.counter c.before.loop.invariant.below
+next_of-next-requires : tie.Need-next_of-next-requires invariant-loop-k decreases-loop-k
+next_of-next-requires c κs = let s = start_of c in stepping s.args.c (sound s) c.loop-k.counter c.loop-k.invariant.below
 
 -- the labels of this frame are there
-labels-there : (k : tie.In-loop invariant-loop decreases-loop) → 16 * k.before.loop.k + 16 ≤ 256
-labels-there k = let s = sound (start_of k) in omega (arith, s.frames-most, k.loop-test.true)
+labels-there : (k : tie.In-loop-k invariant-loop-k decreases-loop-k) → 16 * k.loop-k.k + 16 ≤ 256
+labels-there k = let s = sound (start_of k) in omega (arith, s.frames-most, k.loop-k-test.true)
 
 -- and where its bits end
 end_is :
-    (k : tie.After-next-of invariant-loop decreases-loop)
-    → let l = k.before.before.loop in
-    l.at + k.next_of.result.size ≡ l.at + length_next (start_of k.before).args.c l.counter
-end_is k = ap (λ (n : ℕ). k.before.before.loop.at + n) k.next_of.ensures.size
+    (k : tie.After-next_of-next invariant-loop-k decreases-loop-k)
+    → let l = k.loop-k in
+    l.at + k.next_of-next.result.size ≡ l.at + length_next (start_of k.before).args.c l.counter
+end_is k = ap (λ (n : ℕ). k.loop-k.at + n) k.next_of-next.ensures.size
 
 -- is inside the buffer, which has at most 1248 bits
 room :
-    (k : tie.After-next-of invariant-loop decreases-loop)
-    → let l = k.before.before.loop in
-    (l.at + k.next_of.result.size ≤ length l.bits) × (length l.bits ≤ 1248)
+    (k : tie.After-next_of-next invariant-loop-k decreases-loop-k)
+    → let l = k.loop-k in
+    (l.at + k.next_of-next.result.size ≤ length l.bits) × (length l.bits ≤ 1248)
 room k =
     let t = k.before in
-    let l = t.before.loop in
+    let l = t.loop-k in
     let s = start_of t in (
-      omega (arith, end_is k, frame-room (sound s) l.invariant t.loop-test.true),
-      omega (arith, l.invariant.filling.size, (none s).filling.size, s.pre.0.size, (sound s).user_is, (sound s).bits_most),
+      omega (arith, end_is k, frame-room (sound s) l.invariant t.loop-k-test.true),
+      omega (arith, l.invariant.filling.size, (none s).filling.size, s.requires.0.size, (sound s).user_is, (sound s).bits_most),
     )
 
-add-end : tie.Need-overflow-add-end invariant-loop decreases-loop
-add-end c = let r = room c.before in omega (arith, r.0, r.1)
+overflow_add-end : tie.Need-overflow_add-end invariant-loop-k decreases-loop-k
+overflow_add-end c = let r = room c.before in omega (arith, r.0, r.1)
 
-mul-receive-frame : tie.Need-overflow-mul-receive-frame invariant-loop decreases-loop
-mul-receive-frame c = omega (arith, labels-there c.before.before)
+offset_bounds-numbers-k : tie.Need-offset_bounds-numbers-k invariant-loop-k decreases-loop-k
+offset_bounds-numbers-k c = omega (arith, labels-there c.before.before.before)
 
-shared-slice-read-receive-frame : tie.Need-shared-slice-read-receive-frame invariant-loop decreases-loop
-shared-slice-read-receive-frame c = let t = c.before.before.before in omega (arith, (start_of t).requires.1.room, t.loop-test.true)
+bounds-numbers-k : tie.Need-bounds-numbers-k invariant-loop-k decreases-loop-k
+bounds-numbers-k c = let t = c.before.before.before.before in omega (arith, (start_of t).requires.1.room, t.loop-k-test.true)
 
-mul-receive-frame-2 : tie.Need-overflow-mul-receive-frame-2 invariant-loop decreases-loop
-mul-receive-frame-2 c = omega (arith, labels-there c.before.before.before)
+overflow_mul-k : tie.Need-overflow_mul-k invariant-loop-k decreases-loop-k
+overflow_mul-k c = omega (arith, labels-there c.before.before.before.before)
 
-mul-receive-frame-3 : tie.Need-overflow-mul-receive-frame-3 invariant-loop decreases-loop
-mul-receive-frame-3 c = omega (arith, labels-there c.before.before.before)
+overflow_mul-k-in-loop-k : tie.Need-overflow_mul-k-in-loop-k invariant-loop-k decreases-loop-k
+overflow_mul-k-in-loop-k c = omega (arith, labels-there c.before.before.before.before)
 
-add-receive-frame : tie.Need-overflow-add-receive-frame invariant-loop decreases-loop
-add-receive-frame c = omega (arith, labels-there c.before.before.before)
+overflow_add-k : tie.Need-overflow_add-k invariant-loop-k decreases-loop-k
+overflow_add-k c = omega (arith, labels-there c.before.before.before.before)
 
-mul-receive-frame-4 : tie.Need-overflow-mul-receive-frame-4 invariant-loop decreases-loop
-mul-receive-frame-4 c = omega (arith, labels-there c.before.before.before)
+offset_bounds-labels-k : tie.Need-offset_bounds-labels-k invariant-loop-k decreases-loop-k
+offset_bounds-labels-k c = omega (arith, labels-there c.before.before.before.before)
 
-sub-receive-frame : tie.Need-overflow-sub-receive-frame invariant-loop decreases-loop
-sub-receive-frame c = omega arith
+slice_bounds-receive_frame-count : tie.Need-slice_bounds-receive_frame-count invariant-loop-k decreases-loop-k
+slice_bounds-receive_frame-count c = omega arith
 
-part-receive-frame-start : tie.Need-slice-bounds-receive-frame-start invariant-loop decreases-loop
-part-receive-frame-start c = omega arith
+slice_bounds-receive_frame-start : tie.Need-slice_bounds-receive_frame-start invariant-loop-k decreases-loop-k
+slice_bounds-receive_frame-start c = omega arith
 
-part-receive-frame-end : tie.Need-slice-bounds-receive-frame-end invariant-loop decreases-loop
-part-receive-frame-end c = let t = c.before.before.before in omega (arith, (start_of t).requires.0.count, t.loop-test.true)
+slice_bounds-receive_frame-end : tie.Need-slice_bounds-receive_frame-end invariant-loop-k decreases-loop-k
+slice_bounds-receive_frame-end c = let t = c.before.before.before.before in omega (arith, (start_of t).requires.0.count, t.loop-k-test.true)
 
-sub-receive-frame-2 : tie.Need-overflow-sub-receive-frame-2 invariant-loop decreases-loop
-sub-receive-frame-2 c = omega arith
+slice_bounds-receive_frame-count-in-loop-k : tie.Need-slice_bounds-receive_frame-count-in-loop-k invariant-loop-k decreases-loop-k
+slice_bounds-receive_frame-count-in-loop-k c = omega arith
 
-part-receive-frame-start-2 : tie.Need-slice-bounds-receive-frame-start-2 invariant-loop decreases-loop
-part-receive-frame-start-2 c = omega arith
+slice_bounds-receive_frame-start-in-loop-k : tie.Need-slice_bounds-receive_frame-start-in-loop-k invariant-loop-k decreases-loop-k
+slice_bounds-receive_frame-start-in-loop-k c = omega arith
 
-part-receive-frame-end-2 : tie.Need-slice-bounds-receive-frame-end-2 invariant-loop decreases-loop
-part-receive-frame-end-2 c = (room c.before.before.before).0
+slice_bounds-receive_frame-end-in-loop-k : tie.Need-slice_bounds-receive_frame-end-in-loop-k invariant-loop-k decreases-loop-k
+slice_bounds-receive_frame-end-in-loop-k c = (room c.before.before.before.before).0
 
 -- from the call back to the next frame
-abbrev nexted : tie.After-receive-frame-arg2 invariant-loop decreases-loop → tie.After-next-of invariant-loop decreases-loop
-nexted k = k.before.before.before.before
+abbrev nexted : tie.After-receive_frame-arg-in-loop-k-2-1 invariant-loop-k decreases-loop-k → tie.After-next_of-next invariant-loop-k decreases-loop-k
+nexted k = k.before.before.before.before.before
 
-receive-frame-requires : tie.Need-receive-frame-requires invariant-loop decreases-loop
-receive-frame-requires c κs =
+receive_frame-moved-requires : tie.Need-receive_frame-moved-requires invariant-loop-k decreases-loop-k
+receive_frame-moved-requires c κs =
     let n = nexted c in
     let t = n.before in
-    let l = t.before.loop in
+    let l = t.loop-k in
     let s = start_of t in
-    frame_receivable (sound s) l.inv t.loop-test.taken
-    _ n.next_of.ensures.shape _ (s.pre.1.found l.k t.loop-test.taken) _ (end_is n) s.pre.0.count
+    frame_receivable (sound s) l.invariant t.loop-k-test.true
+    _ n.next_of-next.ensures.shape _ (s.requires.1.found l.k t.loop-k-test.true) _ (end_is n) s.requires.0.count
 
 -- from the end of a turn back to the frame that was received, and to the next one as it stood before it
-abbrev received-of : tie.After-slice-known2 invariant-loop decreases-loop → tie.After-receive-frame invariant-loop decreases-loop
+abbrev received-of : tie.After-slice_known-in-loop-k-1 invariant-loop-k decreases-loop-k → tie.After-receive_frame-moved invariant-loop-k decreases-loop-k
 received-of k = k.before.before
 
-abbrev frame-of : tie.After-slice-known2 invariant-loop decreases-loop → tie.After-next-of invariant-loop decreases-loop
+abbrev frame-of : tie.After-slice_known-in-loop-k-1 invariant-loop-k decreases-loop-k → tie.After-next_of-next invariant-loop-k decreases-loop-k
 frame-of k = nexted (received-of k).before
 
-add-k : tie.Need-overflow-add-k invariant-loop decreases-loop
-add-k c = omega (arith, labels-there (frame-of c).before)
+overflow_add-k-in-loop-k : tie.Need-overflow_add-k-in-loop-k invariant-loop-k decreases-loop-k
+overflow_add-k-in-loop-k c = omega (arith, labels-there (frame-of c).before)
 
-loop-less : tie.Need-loop-smaller invariant-loop decreases-loop
-loop-less c = omega (arith, (frame-of c).before.loop-test.true)
+loop-k-smaller : tie.Need-loop-k-smaller invariant-loop-k decreases-loop-k
+loop-k-smaller c = omega (arith, (frame-of c).loop-k-test.true)
 
-loop-again : tie.Need-loop-preserved invariant-loop decreases-loop
-loop-again c =
+loop-k-preserved : tie.Need-loop-k-preserved invariant-loop-k decreases-loop-k
+loop-k-preserved c =
     let n = frame-of c in
     let t = n.before in
-    let l = t.before.loop in
+    let l = t.loop-k in
     let s = start_of t in
-    part-read-more (sound s) l.inv t.loop-test.taken
-    _ _ _ _ _ _ _ n.next_of.ensures.shape (s.pre.1.found l.k t.loop-test.taken) (received-of c).receive-frame.ensures
-    (end_is n) n.next_of.ensures.counted refl
+    part-read-more (sound s) l.invariant t.loop-k-test.true
+    _ _ _ _ _ _ _ n.next_of-next.ensures.shape (s.requires.1.found l.k t.loop-k-test.true) (received-of c).receive_frame-moved.ensures
+    (end_is n) n.next_of-next.ensures.counted refl
 
-same_length : tie.Need-same-length invariant-loop decreases-loop
-same_length c = c.before.loop.invariant.filling.size ∙ sym (none (given c.before)).filling.size
+shape_of-bits : tie.Need-shape_of-bits invariant-loop-k decreases-loop-k
+shape_of-bits c = c.loop-k.invariant.filling.size ∙ sym (none (given c.before)).filling.size
 
-returns : tie.Need-returns invariant-loop decreases-loop
+returns : tie.Need-returns invariant-loop-k decreases-loop-k
 returns c =
-    let h = c.before.loop.invariant in
-    let all = c.loop-test.false in
+    let h = c.loop-k.invariant in
+    let all = c.loop-k-test.false in
     (part-read_all h all, (part-read-register h all, part-read-turned h all))
 
 pub receive_spec : {M : Type 1} → statement M
 receive_spec =
     tie.close
     (tie.spec
-    invariant-loop
-    decreases-loop
-    loop-holds
-    next-of-requires
-    add-end
-    mul-receive-frame
-    shared-slice-read-receive-frame
-    mul-receive-frame-2
-    mul-receive-frame-3
-    add-receive-frame
-    mul-receive-frame-4
-    sub-receive-frame
-    part-receive-frame-start
-    part-receive-frame-end
-    sub-receive-frame-2
-    part-receive-frame-start-2
-    part-receive-frame-end-2
-    receive-frame-requires
-    add-k
-    loop-less
-    loop-again
-    same_length
+    invariant-loop-k
+    decreases-loop-k
+    loop-k-init
+    next_of-next-requires
+    overflow_add-end
+    offset_bounds-numbers-k
+    bounds-numbers-k
+    overflow_mul-k
+    overflow_mul-k-in-loop-k
+    overflow_add-k
+    offset_bounds-labels-k
+    slice_bounds-receive_frame-count
+    slice_bounds-receive_frame-start
+    slice_bounds-receive_frame-end
+    slice_bounds-receive_frame-count-in-loop-k
+    slice_bounds-receive_frame-start-in-loop-k
+    slice_bounds-receive_frame-end-in-loop-k
+    receive_frame-moved-requires
+    overflow_add-k-in-loop-k
+    loop-k-smaller
+    loop-k-preserved
+    shape_of-bits
     returns)

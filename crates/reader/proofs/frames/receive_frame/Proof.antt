@@ -38,39 +38,39 @@ frame k =
     r.limits.threes r.turn r.sixteen r.ranges p.fits p.steps)
 
 -- from each call back to the function's start
-abbrev start_of : tie.After-room → tie.Start
+abbrev start_of : tie.After-room-space → tie.Start
 start_of k = k.before.before.before
 
-abbrev roomed : tie.After-read-frame → tie.After-room
+abbrev roomed : tie.After-read_frame-z → tie.After-room-space
 roomed k = k.before.before
 
-abbrev given : tie.After-read-frame → tie.Start
+abbrev given : tie.After-read_frame-z → tie.Start
 given k = start_of (roomed k)
 
 -- and from the bits that are lent again to what was read
-abbrev read_of : tie.After-descramble-part → tie.After-read-frame
+abbrev read_of : tie.After-descramble_part-register → tie.After-read_frame-z
 read_of k = k.before.before.before.before
 
-room-requires : tie.Need-room-requires
-room-requires c κs = search rules
+room-space-requires : tie.Need-room-space-requires
+room-space-requires c κs = search rules
 
-array-borrow-prefix-space : tie.Need-array-borrow-prefix-space
-array-borrow-prefix-space c = omega (arith, c.room.ensures, (start_of c).requires.short)
+slice_bounds-space-end : tie.Need-slice_bounds-space-end
+slice_bounds-space-end c = omega (arith, c.room-space.ensures, (start_of c).requires.short)
 
 -- the part that is lent for reading is as long as the frame
 lent :
-    (k : tie.After-room)
+    (k : tie.After-room-space)
     → let bits = (start_of k).args.bits.now in
-    length (take (length bits) k.room.result) ≡ length bits
+    length (take (length bits) k.room-space.result) ≡ length bits
 lent k =
     let s = start_of k in
-    length-take-le (length s.args.bits.now) k.room.result (omega (arith, k.room.ensures, s.pre.short))
+    length-take-le (length s.args.bits.now) k.room-space.result (omega (arith, k.room-space.ensures, s.requires.short))
 
-slice-aggregate-read-frame : tie.Need-slice-aggregate-read-frame
-slice-aggregate-read-frame c = sym (lent c.before)
+slice_bounds-read_frame-end : tie.Need-slice_bounds-read_frame-end
+slice_bounds-read_frame-end c = sym (lent c.before)
 
-read-frame-requires : tie.Need-read-frame-requires
-read-frame-requires c κs =
+read_frame-z-requires : tie.Need-read_frame-z-requires
+read_frame-z-requires c κs =
     let r = (start_of c.before).requires.readable in
     record {
       M = r.M;
@@ -83,25 +83,25 @@ read-frame-requires c κs =
     }
 
 -- what was read
-abbrev part : tie.After-read-frame → List ℕ
-part k = k.read-frame.new.1.1.1.1.0
+abbrev part : tie.After-read_frame-z → List ℕ
+part k = k.read_frame-z.new.bits
 
-part-long : (k : tie.After-read-frame) → length (part k) ≡ length (given k).args.bits.now
-part-long k = k.read-frame.auto.1.1.1.1.0 ∙ lent (roomed k)
+part-long : (k : tie.After-read_frame-z) → length (part k) ≡ length (given k).args.bits.now
+part-long k = k.read_frame-z.auto.bits ∙ lent (roomed k)
 
 -- and what is behind it in the room
-abbrev rest : tie.After-read-frame → List ℕ
-rest k = drop (length (given k).args.bits.now) (roomed k).room.result
+abbrev rest : tie.After-read_frame-z → List ℕ
+rest k = drop (length (given k).args.bits.now) (roomed k).room-space.result
 
 -- lent again
 again :
-    (k : tie.After-read-frame)
+    (k : tie.After-read_frame-z)
     → let a = (given k).args in
     take (length a.bits.now) (part k ++ rest k) ≡ bits_read a.shape a.number a.before.z a.labels.now
-again k = take_at _ _ _ (part-long k) ∙ k.read-frame.ensures.0
+again k = take_at _ _ _ (part-long k) ∙ k.read_frame-z.ensures.0
 
-array-share-prefix-space : tie.Need-array-share-prefix-space
-array-share-prefix-space c = let k = c.before in omega (arith, part-long k, length-append (part k) (rest k))
+slice_bounds-space-end-2 : tie.Need-slice_bounds-space-end-2
+slice_bounds-space-end-2 c = let k = c.before in omega (arith, part-long k, length-append (part k) (rest k))
 
 -- as many bits as there is room for
 read-size :
@@ -110,23 +110,23 @@ read-size :
     length (bits_read a.shape a.number a.before.z a.labels.now) ≡ length a.bits.now
 read-size s = (frame s).size ∙ sym s.requires.readable.size
 
-slice-aggregate-descramble-part : tie.Need-slice-aggregate-descramble-part
-slice-aggregate-descramble-part c =
+slice_bounds-descramble_part-end : tie.Need-slice_bounds-descramble_part-end
+slice_bounds-descramble_part-end c =
     let k = c.before.before in
     sym (ap length (again k) ∙ read-size (given k))
 
-descramble-part-requires : tie.Need-descramble-part-requires
-descramble-part-requires c κs =
+descramble_part-register-requires : tie.Need-descramble_part-register-requires
+descramble_part-register-requires c κs =
     let k = c.before.before.before in
     let s = given k in
     record {
-      small = s.pre.held;
+      small = s.requires.held;
       binary = subst Bits (sym (again k)) (frame s).binary;
       room = omega (arith, ap length (again k), read-size s);
     }
 
-same_length : tie.Need-same-length
-same_length c = search rules
+shape_of-bits : tie.Need-shape_of-bits
+shape_of-bits c = search rules
 
 returns : tie.Need-returns
 returns c =
@@ -135,21 +135,21 @@ returns c =
     let s = given k in
     let a = s.args in
     record {
-      slice = whole_slice a.role a.before.register _ _ a.bits.now _ (again k) (read-size s) d.descramble-part.ensures.slice;
-      held = d.descramble-part.ensures.held ∙ ap (push_all a.before.register) (again k);
-      turned = k.read-frame.ensures.1;
+      slice = whole_slice a.role a.before.register _ _ a.bits.now _ (again k) (read-size s) d.descramble_part-register.ensures.slice;
+      held = d.descramble_part-register.ensures.held ∙ ap (push_all a.before.register) (again k);
+      turned = k.read_frame-z.ensures.1;
     }
 
 pub receive_frame_spec : {M : Type 1} → statement M
 receive_frame_spec =
     tie.close
     (tie.spec
-    room-requires
-    array-borrow-prefix-space
-    slice-aggregate-read-frame
-    read-frame-requires
-    array-share-prefix-space
-    slice-aggregate-descramble-part
-    descramble-part-requires
-    same_length
+    room-space-requires
+    slice_bounds-space-end
+    slice_bounds-read_frame-end
+    read_frame-z-requires
+    slice_bounds-space-end-2
+    slice_bounds-descramble_part-end
+    descramble_part-register-requires
+    shape_of-bits
     returns)
