@@ -6,6 +6,7 @@
 // `coder::short_start`, `writer::write` and `reader::read`, `info0::read` and `info0::write`, `info1c::read` and `info1c::write`, and `read`
 // and `write` of `jp`. `asked` puts together what a call asks for, `layout` puts numbers and labels into bytes.
 #![tactic(auto)]
+
 pub mod asked;
 pub mod data;
 pub mod digital;

@@ -4,21 +4,21 @@ use Rattle.workerwax.specs.Lending.{lent_labels}
 use Rattle.workerwax.proofs.data.lent_labels.Statement.{statement}
 use Rattle.workerwax.proofs.data.lent_labels.Tie as tie
 
+returns-then-answer-ne32 : tie.Need-returns-then-answer-ne32
+unfolding lent_labels
+returns-then-answer-ne32 c = rw (ne_eqb _ _ c.if-answer-ne32.true)
+
+returns-then-labels-gt512 : tie.Need-returns-then-labels-gt512
+unfolding lent_labels
+returns-then-labels-gt512 c = rw (eq-eqb _ _ c.if-answer-ne32.false, lt-leb _ _ c.if-labels-gt512.true)
+
+returns-then-labels-ne0 : tie.Need-returns-then-labels-ne0
+unfolding lent_labels
+returns-then-labels-ne0 c = rw (eq-eqb _ _ c.if-answer-ne32.false, le-leb _ _ c.if-labels-gt512.false, ne_eqb _ _ c.if-labels-ne0.true)
+
 returns : tie.Need-returns
 unfolding lent_labels
-returns c = rw (ne_eqb _ _ c.if1.true)
-
-returns-2 : tie.Need-returns-2
-unfolding lent_labels
-returns-2 c = rw (eq-eqb _ _ c.before.if1.false, lt-leb _ _ c.if2.true)
-
-returns-3 : tie.Need-returns-3
-unfolding lent_labels
-returns-3 c = rw (eq-eqb _ _ c.before.before.if1.false, le-leb _ _ c.before.if2.false, ne_eqb _ _ c.if3.true)
-
-returns-4 : tie.Need-returns-4
-unfolding lent_labels
-returns-4 c = rw (eq-eqb _ _ c.before.before.if1.false, le-leb _ _ c.before.if2.false, eq-eqb _ _ c.if3.false)
+returns c = rw (eq-eqb _ _ c.if-answer-ne32.false, le-leb _ _ c.if-labels-gt512.false, eq-eqb _ _ c.if-labels-ne0.false)
 
 pub lent_labels_spec : {M : Type 1} → statement M
-lent_labels_spec = tie.close (tie.spec returns returns-2 returns-3 returns-4)
+lent_labels_spec = tie.close (tie.spec returns-then-answer-ne32 returns-then-labels-gt512 returns-then-labels-ne0 returns)

@@ -20,118 +20,118 @@ use Rattle.workerwax.proofs.Coding.{read-refused, read-lent, read_done}
 use Rattle.workerwax.proofs.data.ww_read.Statement.{statement}
 use Rattle.workerwax.proofs.data.ww_read.Tie as tie
 
-asked-of-requires : tie.Need-asked-of-requires
-asked-of-requires c κs = search rules
+asked_of-asked-requires : tie.Need-asked_of-asked-requires
+asked_of-asked-requires c κs = search rules
 
-lent-labels-requires : tie.Need-lent-labels-requires
-lent-labels-requires c κs = search rules
+lent_labels-lent-requires : tie.Need-lent_labels-lent-requires
+lent_labels-lent-requires c κs = search rules
 
-blank-requires : tie.Need-blank-requires
-blank-requires c κs = search rules
+blank-space-requires : tie.Need-blank-space-requires
+blank-space-requires c κs = search rules
 
 -- what was given, and how many labels are lent
-abbrev asks : tie.After-blank → tie.After-asked-of
+abbrev asks : tie.After-blank-space → tie.After-asked_of-asked
 asks k = k.before.before
 
-abbrev start : tie.After-blank → tie.Start
+abbrev start : tie.After-blank-space → tie.Start
 start k = let slices = (asks k).before in slices.before.before.before
 
-abbrev lent : tie.After-blank → ℕ
-lent k = k.before.lent-labels.result
+abbrev lent : tie.After-blank-space → ℕ
+lent k = k.lent_labels-lent.result
 
-is_lent : (k : tie.After-blank) → let a = (start k).args in lent k ≡ lent_labels (length a.labels.now) (length a.answer.now)
-is_lent k = k.before.lent-labels.ensures
+is_lent : (k : tie.After-blank-space) → let a = (start k).args in lent k ≡ lent_labels (length a.labels.now) (length a.answer.now)
+is_lent k = k.lent_labels-lent.ensures
 
-most : (k : tie.After-blank) → lent k ≤ 256
+most : (k : tie.After-blank-space) → lent k ≤ 256
 most k = let a = (start k).args in omega (arith, is_lent k, lent-most (length a.labels.now) (length a.answer.now))
 
-there : (k : tie.After-blank) → 2 * lent k ≤ length (start k).args.labels.now
+there : (k : tie.After-blank-space) → 2 * lent k ≤ length (start k).args.labels.now
 there k = let a = (start k).args in omega (arith, is_lent k, lent-within (length a.labels.now) (length a.answer.now))
 
-room : (k : tie.After-blank) → lent k ≤ length k.blank.result
-room k = omega (arith, k.blank.ensures, most k)
+room : (k : tie.After-blank-space) → lent k ≤ length k.blank-space.result
+room k = omega (arith, k.blank-space.ensures, most k)
 
-bytes-long : (k : tie.After-blank) → length (take (2 * lent k) (start k).args.labels.now) ≡ 2 * lent k
+bytes-long : (k : tie.After-blank-space) → length (take (2 * lent k) (start k).args.labels.now) ≡ 2 * lent k
 bytes-long k = length-take-le (2 * lent k) (start k).args.labels.now (there k)
 
-part-long : (k : tie.After-blank) → length (take (lent k) k.blank.result) ≡ lent k
-part-long k = length-take-le (lent k) k.blank.result (room k)
+part-long : (k : tie.After-blank-space) → length (take (lent k) k.blank-space.result) ≡ lent k
+part-long k = length-take-le (lent k) k.blank-space.result (room k)
 
-mul-take-labels : tie.Need-overflow-mul-take-labels
-mul-take-labels c = omega (arith, most c)
+overflow_mul-lent : tie.Need-overflow_mul-lent
+overflow_mul-lent c = omega (arith, most c)
 
-slice-aggregate-take-labels : tie.Need-slice-aggregate-take-labels
-slice-aggregate-take-labels c = sym (bytes-long c.before)
+slice_bounds-take_labels-end : tie.Need-slice_bounds-take_labels-end
+slice_bounds-take_labels-end c = sym (bytes-long c)
 
-array-borrow-prefix-space : tie.Need-array-borrow-prefix-space
-array-borrow-prefix-space c = room c.before
+slice_bounds-space-end : tie.Need-slice_bounds-space-end
+slice_bounds-space-end c = room c
 
-slice-aggregate-take-labels-2 : tie.Need-slice-aggregate-take-labels-2
-slice-aggregate-take-labels-2 c = sym (part-long c.before.before)
+slice_bounds-take_labels-end-2 : tie.Need-slice_bounds-take_labels-end-2
+slice_bounds-take_labels-end-2 c = sym (part-long c.before)
 
-take-labels-requires : tie.Need-take-labels-requires
-take-labels-requires c κs = let k = c.before.before in omega (arith, bytes-long k, part-long k)
+take_labels-requires : tie.Need-take_labels-requires
+take_labels-requires c κs = let k = c.before in omega (arith, bytes-long k, part-long k)
 
 -- the labels that were taken
-abbrev blank : tie.After-take-labels → tie.After-blank
-blank k = k.before.before.before
+abbrev blank : tie.After-take_labels → tie.After-blank-space
+blank k = k.before.before
 
-abbrev taken : tie.After-take-labels → List ℕ
-taken k = k.take-labels.new.1.0
+abbrev taken : tie.After-take_labels → List ℕ
+taken k = k.take_labels.new.labels
 
-taken-long : (k : tie.After-take-labels) → length (taken k) ≡ lent (blank k)
-taken-long k = k.take-labels.auto.1.0 ∙ part-long (blank k)
+taken-long : (k : tie.After-take_labels) → length (taken k) ≡ lent (blank k)
+taken-long k = k.take_labels.auto.labels ∙ part-long (blank k)
 
 -- lent again
-abbrev given : tie.After-take-labels → List ℕ
-given k = take (lent (blank k)) (taken k ++ drop (lent (blank k)) (blank k).blank.result)
+abbrev given : tie.After-take_labels → List ℕ
+given k = take (lent (blank k)) (taken k ++ drop (lent (blank k)) (blank k).blank-space.result)
 
-again : (k : tie.After-take-labels) → given k ≡ taken k
+again : (k : tie.After-take_labels) → given k ≡ taken k
 again k = take_at _ _ _ (taken-long k)
 
 is_given :
-    (k : tie.After-take-labels)
+    (k : tie.After-take_labels)
     → let a = (start (blank k)).args in
     given k ≡ labels_in (take (2 * lent_labels (length a.labels.now) (length a.answer.now)) a.labels.now)
-is_given k = again k ∙ (rw (is_lent (blank k)) at k.take-labels.ensures)
+is_given k = again k ∙ (rw (is_lent (blank k)) at k.take_labels.ensures)
 
-array-share-prefix-space : tie.Need-array-share-prefix-space
-array-share-prefix-space c =
+slice_bounds-space-end-2 : tie.Need-slice_bounds-space-end-2
+slice_bounds-space-end-2 c =
     let k = c.before in
     let b = blank k in
-    omega (arith, taken-long k, length-append (taken k) (drop (lent b) b.blank.result))
+    omega (arith, taken-long k, length-append (taken k) (drop (lent b) b.blank-space.result))
 
-slice-aggregate-read : tie.Need-slice-aggregate-read
-slice-aggregate-read c = let k = c.before.before in sym (ap length (again k) ∙ taken-long k)
+slice_bounds-read-end : tie.Need-slice_bounds-read-end
+slice_bounds-read-end c = let k = c.before.before in sym (ap length (again k) ∙ taken-long k)
 
-read-requires : tie.Need-read-requires
-read-requires c κs = search rules
+read-coded-requires : tie.Need-read-coded-requires
+read-coded-requires c κs = search rules
 
 -- the state that was given
-abbrev state : tie.After-blank → State
+abbrev state : tie.After-blank-space → State
 state k = let a = (start k).args in state_of (asked a.role a.s a.n a.shaping a.mark) a.register a.z
 
 -- what the coder answered, and the bits that it read
-abbrev labels : tie.After-read → tie.After-take-labels
+abbrev labels : tie.After-read-coded → tie.After-take_labels
 labels r = let slices = r.before in slices.before.before.before
 
 coded :
-    (r : tie.After-read)
+    (r : tie.After-read-coded)
     → let k = labels r in
-    r.read.result ≡ read_of (state (blank k)) (given k) (length (start (blank k)).args.bits.now)
-coded r = rw (asks (blank (labels r))).asked_of.ensures at r.read.ensures.answer
+    r.read-coded.result ≡ read_of (state (blank k)) (given k) (length (start (blank k)).args.bits.now)
+coded r = rw (asks (blank (labels r))).asked_of-asked.ensures at r.read-coded.ensures.answer
 
 bits_are :
-    (r : tie.After-read)
+    (r : tie.After-read-coded)
     → let k = labels r in
-    r.read.new.1.1.0 ≡ bits_after (state (blank k)) (given k) (start (blank k)).args.bits.now
-bits_are r = rw (asks (blank (labels r))).asked_of.ensures at r.read.ensures.buffer
+    r.read-coded.new.bits ≡ bits_after (state (blank k)) (given k) (start (blank k)).args.bits.now
+bits_are r = rw (asks (blank (labels r))).asked_of-asked.ensures at r.read-coded.ensures.buffer
 
 -- the call is refused, or it is not
-abbrev denied : tie.Then1 → tie.After-read
+abbrev denied : tie.Then-coded-ne0 → tie.After-read-coded
 denied t = let slices = t.before in slices.before.before.before
 
-abbrev read : tie.Else1 → tie.After-read
+abbrev read : tie.Else-coded-ne0 → tie.After-read-coded
 read e = let slices = e.before in slices.before.before.before
 
 narrow-requires : tie.Need-narrow-requires
@@ -141,48 +141,48 @@ narrow-requires c κs =
     let most = read-narrow (state (blank k)) (given k) (length (start (blank k)).args.bits.now) in
     subst (λ (x : Coded). x.refusal < 2 ^ 32) (sym (coded r)) most
 
-same_length : tie.Need-same-length
-same_length c = search rules
+shape_of-bits-then-coded-ne0 : tie.Need-shape_of-bits-then-coded-ne0
+shape_of-bits-then-coded-ne0 c = search rules
 
-returns : tie.Need-returns
-returns c =
+returns-then-coded-ne0 : tie.Need-returns-then-coded-ne0
+returns-then-coded-ne0 c =
     let t = c.before in
     let r = denied t in
     let k = labels r in
     let a = (start (blank k)).args in
     rw c.narrow.ensures
     (read-refused (state (blank k)) a.labels.now a.bits.now a.answer.now (given k) (is_given k) _ _
-    (ap (λ (x : Coded). x.refusal) (coded r)) t.if1.true (bits_are r))
+    (ap (λ (x : Coded). x.refusal) (coded r)) t.if-coded-ne0.true (bits_are r))
 
-numbers-of-requires : tie.Need-numbers-of-requires
-numbers-of-requires c κs = search rules
+numbers_of-requires : tie.Need-numbers_of-requires
+numbers_of-requires c κs = search rules
 
-slice-aggregate-put-words : tie.Need-slice-aggregate-put-words
-slice-aggregate-put-words c = search rules
+slice_bounds-put_words-end : tie.Need-slice_bounds-put_words-end
+slice_bounds-put_words-end c = search rules
 
 done :
-    (e : tie.Else1)
+    (e : tie.Else-coded-ne0)
     → let k = labels (read e) in
     (read_of (state (blank k)) (given k) (length (start (blank k)).args.bits.now)).refusal ≡ 0
-done e = sym (ap (λ (x : Coded). x.refusal) (coded (read e))) ∙ e.if1.false
+done e = sym (ap (λ (x : Coded). x.refusal) (coded (read e))) ∙ e.if-coded-ne0.false
 
-put-words-requires : tie.Need-put-words-requires
-put-words-requires c κs =
+put_words-requires : tie.Need-put_words-requires
+put_words-requires c κs =
     let n = c.before in
     let e = n.before.before in
     let k = labels (read e) in
     let a = (start (blank k)).args in
     let lengths = read-lent (state (blank k)) a.labels.now a.bits.now a.answer.now (given k) (is_given k) (done e) in
-    omega (arith, lengths.answered, ap length n.Numbers-of.ensures)
+    omega (arith, lengths.answered, ap length n.numbers_of.ensures)
 
-same-length-2 : tie.Need-same-length-2
-same-length-2 c = search rules
+shape_of-bits : tie.Need-shape_of-bits
+shape_of-bits c = search rules
 
-same-length-3 : tie.Need-same-length-3
-same-length-3 c = search rules
+shape_of-answer : tie.Need-shape_of-answer
+shape_of-answer c = search rules
 
-returns-2 : tie.Need-returns-2
-returns-2 c =
+returns : tie.Need-returns
+returns c =
     let w = c.before.before in
     let n = w.before.before in
     let e = n.before.before in
@@ -190,29 +190,29 @@ returns-2 c =
     let k = labels r in
     let a = (start (blank k)).args in
     read_done (state (blank k)) a.labels.now a.bits.now a.answer.now (given k) (is_given k) (done e) _ _ (bits_are r)
-    (w.put-words.ensures ∙ ap words (n.Numbers-of.ensures ∙ ap coded_numbers (coded r)))
+    (w.put_words.ensures ∙ ap words (n.numbers_of.ensures ∙ ap coded_numbers (coded r)))
 
 pub ww_read_spec : {M : Type 1} → statement M
 ww_read_spec =
     tie.close
     (tie.spec
-    asked-of-requires
-    lent-labels-requires
-    blank-requires
-    mul-take-labels
-    slice-aggregate-take-labels
-    array-borrow-prefix-space
-    slice-aggregate-take-labels-2
-    take-labels-requires
-    array-share-prefix-space
-    slice-aggregate-read
-    read-requires
+    asked_of-asked-requires
+    lent_labels-lent-requires
+    blank-space-requires
+    overflow_mul-lent
+    slice_bounds-take_labels-end
+    slice_bounds-space-end
+    slice_bounds-take_labels-end-2
+    take_labels-requires
+    slice_bounds-space-end-2
+    slice_bounds-read-end
+    read-coded-requires
     narrow-requires
-    same_length
-    returns
-    numbers-of-requires
-    slice-aggregate-put-words
-    put-words-requires
-    same-length-2
-    same-length-3
-    returns-2)
+    shape_of-bits-then-coded-ne0
+    returns-then-coded-ne0
+    numbers_of-requires
+    slice_bounds-put_words-end
+    put_words-requires
+    shape_of-bits
+    shape_of-answer
+    returns)

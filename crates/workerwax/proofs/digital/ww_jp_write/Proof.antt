@@ -14,18 +14,18 @@ write-requires c κs = search rules
 narrow-requires : tie.Need-narrow-requires
 narrow-requires c κs =
     let k = c.before.before in
-    let a = k.before.before.before.args in
+    let a = k.args in
     omega (
       arith,
       k.write.ensures.number,
       sequence-narrow jp (sent_numbers (named a.fraction a.training a.renegotiation)) (length a.bits.now),
     )
 
-same_length : tie.Need-same-length
-same_length c = search rules
+shape_of-bits : tie.Need-shape_of-bits
+shape_of-bits c = search rules
 
 returns : tie.Need-returns
 returns c = search rules
 
 pub ww_jp_write_spec : {M : Type 1} → statement M
-ww_jp_write_spec = tie.close (tie.spec write-requires narrow-requires same_length returns)
+ww_jp_write_spec = tie.close (tie.spec write-requires narrow-requires shape_of-bits returns)

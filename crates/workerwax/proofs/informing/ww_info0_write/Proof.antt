@@ -15,26 +15,26 @@ use Rattle.workerwax.proofs.informing.ww_info0_write.Statement.{statement}
 use Rattle.workerwax.proofs.informing.ww_info0_write.Tie as tie
 
 -- what was given
-abbrev start : tie.After-slice-known → tie.Start
+abbrev start : tie.After-slice_known-1 → tie.Start
 start k = k.before.before
 
-returns : tie.Need-returns
-returns c = let a = (start c.before).args in write_unhanded info0 info0_bytes as_they_are a.fields.now a.bits.now c.if1.true
+returns-then-fields-ne56 : tie.Need-returns-then-fields-ne56
+returns-then-fields-ne56 c = let a = (start c.before).args in write_unhanded info0 info0_bytes as_they_are a.fields.now a.bits.now c.if-fields-ne56.true
 
-slice-aggregate-take-words : tie.Need-slice-aggregate-take-words
-slice-aggregate-take-words c = search rules
+slice_bounds-take_words-end : tie.Need-slice_bounds-take_words-end
+slice_bounds-take_words-end c = search rules
 
-take-words-requires : tie.Need-take-words-requires
-take-words-requires c κs = search rules
+take_words-requires : tie.Need-take_words-requires
+take_words-requires c κs = search rules
 
-fields-of-requires : tie.Need-fields-of-requires
-fields-of-requires c κs = search rules
+fields_of-requires : tie.Need-fields_of-requires
+fields_of-requires c κs = search rules
 
 write-requires : tie.Need-write-requires
 write-requires c κs = search rules
 
 -- the numbers are taken, and then they are put together
-abbrev taken : tie.After-write → tie.After-take-words
+abbrev taken : tie.After-write → tie.After-take_words
 taken k = k.before.before.before.before
 
 abbrev given : tie.After-write → tie.Start
@@ -44,8 +44,8 @@ given k = start (taken k).before.before.before
 written :
     (k : tie.After-write)
     → let a = (given k).args in
-    SequenceAnswer info0 (numbers_in a.fields.now) a.bits.now k.write.result k.write.new.1.0
-written k = answer_same info0 _ _ _ _ _ (k.before.before.fields-of.ensures ∙ (taken k).take_words.ensures) k.write.ensures
+    SequenceAnswer info0 (numbers_in a.fields.now) a.bits.now k.write.result k.write.new.lent
+written k = answer_same info0 _ _ _ _ _ (k.fields_of.ensures ∙ (taken k).take_words.ensures) k.write.ensures
 
 narrow-requires : tie.Need-narrow-requires
 narrow-requires c κs =
@@ -53,25 +53,25 @@ narrow-requires c κs =
     let a = (given k).args in
     omega (arith, (written k).number, sequence-narrow info0 (numbers_in a.fields.now) (length a.bits.now))
 
-same_length : tie.Need-same-length
-same_length c = search rules
+shape_of-bits : tie.Need-shape_of-bits
+shape_of-bits c = search rules
 
-returns-2 : tie.Need-returns-2
-returns-2 c =
+returns : tie.Need-returns
+returns c =
     let k = c.before.before.before in
     let a = (given k).args in
-    let exact = (taken k).before.before.if1.false in
+    let exact = (taken k).if-fields-ne56.false in
     rw c.narrow.ensures (write_done info0 info0_bytes as_they_are a.fields.now a.bits.now _ _ exact (written k))
 
 pub ww_info0_write_spec : {M : Type 1} → statement M
 ww_info0_write_spec =
     tie.close
     (tie.spec
-    returns
-    slice-aggregate-take-words
-    take-words-requires
-    fields-of-requires
+    returns-then-fields-ne56
+    slice_bounds-take_words-end
+    take_words-requires
+    fields_of-requires
     write-requires
     narrow-requires
-    same_length
-    returns-2)
+    shape_of-bits
+    returns)

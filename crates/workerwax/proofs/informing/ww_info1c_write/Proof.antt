@@ -24,50 +24,50 @@ use Rattle.workerwax.proofs.informing.ww_info1c_write.Statement.{statement}
 use Rattle.workerwax.proofs.informing.ww_info1c_write.Tie as tie
 
 -- what was given
-abbrev start : tie.After-slice-known → tie.Start
+abbrev start : tie.After-slice_known-1 → tie.Start
 start k = k.before.before
 
-returns : tie.Need-returns
-returns c =
+returns-then-fields-ne88 : tie.Need-returns-then-fields-ne88
+returns-then-fields-ne88 c =
     let a = (start c.before).args in
-    write_unhanded info1c info1c_bytes count_in10 a.fields.now a.bits.now c.if1.true
+    write_unhanded info1c info1c_bytes count_in10 a.fields.now a.bits.now c.if-fields-ne88.true
 
-slice-aggregate-take-words : tie.Need-slice-aggregate-take-words
-slice-aggregate-take-words c = search rules
+slice_bounds-take_words-end : tie.Need-slice_bounds-take_words-end
+slice_bounds-take_words-end c = search rules
 
-take-words-requires : tie.Need-take-words-requires
-take-words-requires c κs = search rules
+take_words-requires : tie.Need-take_words-requires
+take_words-requires c κs = search rules
 
-array-read-signed : tie.Need-array-read-signed
-array-read-signed c = search rules
+bounds-numbers-21 : tie.Need-bounds-numbers-21
+bounds-numbers-21 c = search rules
 
 -- where the numbers were taken
-abbrev known : tie.After-take-words → tie.After-slice-known
+abbrev known : tie.After-take_words → tie.After-slice_known-1
 known t = t.before.before.before
 
 -- the count has four bytes
-four_bytes : (t : tie.After-take-words) → FourBytes (get_or (numbers_in (start (known t)).args.fields.now) 21 0)
+four_bytes : (t : tie.After-take_words) → FourBytes (get_or (numbers_in (start (known t)).args.fields.now) 21 0)
 four_bytes t =
     let fields = (start (known t)).args.fields.now in
-    let small = numbers-short fields (bytes-each fields (λ i. omega (arith, (known t).before.shared-slice-known.given i))) in
+    let small = numbers-short fields (bytes-each fields (λ i. omega (arith, (known t).shared_slice_known-1.given i))) in
     every_at FourBytes 0 (omega arith) (numbers_in fields) small 21
 
-signed-requires : tie.Need-signed-requires
-signed-requires c κs =
+signed-count-requires : tie.Need-signed-count-requires
+signed-count-requires c κs =
     let t = c.before in
     (omega arith, subst (λ (l : List ℕ). get_or l 21 0 < 4294967296) (sym t.take_words.ensures) (four_bytes t))
 
-fields-of-requires : tie.Need-fields-of-requires
-fields-of-requires c κs = search rules
+fields_of-requires : tie.Need-fields_of-requires
+fields_of-requires c κs = search rules
 
 write-requires : tie.Need-write-requires
 write-requires c κs = search rules
 
 -- the numbers are taken, the count among them, and then the fields are put together
-abbrev counted : tie.After-write → tie.After-signed
+abbrev counted : tie.After-write → tie.After-signed-count
 counted k = k.before.before.before
 
-abbrev taken : tie.After-write → tie.After-take-words
+abbrev taken : tie.After-write → tie.After-take_words
 taken k = (counted k).before.before
 
 abbrev given : tie.After-write → tie.Start
@@ -77,12 +77,12 @@ given k = start (known (taken k))
 written :
     (k : tie.After-write)
     → let a = (given k).args in
-    SequenceAnswer info1c (count_in10 (numbers_in a.fields.now)) a.bits.now k.write.result k.write.new.1.1.0
+    SequenceAnswer info1c (count_in10 (numbers_in a.fields.now)) a.bits.now k.write.result k.write.new.lent
 unfolding count_in10
 written k =
-    let fields = k.before.before.fields-of.ensures in
-    let count = (counted k).signed.ensures in
-    let same = to_z-of_z w32 (counted k).signed.result (record { sfits = (counted k).signed.type_inv }) in
+    let fields = k.fields_of.ensures in
+    let count = (counted k).signed-count.ensures in
+    let same = to_z-of_z w32 (counted k).signed-count.result (record { sfits = (counted k).signed-count.type_inv }) in
     answer_same info1c _ _ _ _ _
     (ap₂ (λ (f : Info1c) (z : ℤ). numbers_of f (unsigned 512 z)) fields (same ∙ count)
     ∙ ap (λ (l : List ℕ). numbers_of (fields_of l) (unsigned 512 (from32 (get_or l 21 0)))) (taken k).take_words.ensures)
@@ -94,27 +94,27 @@ narrow-requires c κs =
     let a = (given k).args in
     omega (arith, (written k).number, sequence-narrow info1c (count_in10 (numbers_in a.fields.now)) (length a.bits.now))
 
-same_length : tie.Need-same-length
-same_length c = search rules
+shape_of-bits : tie.Need-shape_of-bits
+shape_of-bits c = search rules
 
-returns-2 : tie.Need-returns-2
-returns-2 c =
+returns : tie.Need-returns
+returns c =
     let k = c.before.before.before in
     let a = (given k).args in
-    let exact = (taken k).before.before.if1.false in
+    let exact = (taken k).if-fields-ne88.false in
     rw c.narrow.ensures (write_done info1c info1c_bytes count_in10 a.fields.now a.bits.now _ _ exact (written k))
 
 pub ww_info1c_write_spec : {M : Type 1} → statement M
 ww_info1c_write_spec =
     tie.close
     (tie.spec
-    returns
-    slice-aggregate-take-words
-    take-words-requires
-    array-read-signed
-    signed-requires
-    fields-of-requires
+    returns-then-fields-ne88
+    slice_bounds-take_words-end
+    take_words-requires
+    bounds-numbers-21
+    signed-count-requires
+    fields_of-requires
     write-requires
     narrow-requires
-    same_length
-    returns-2)
+    shape_of-bits
+    returns)

@@ -5,44 +5,44 @@ use borrow.Author.Rules.{rules}
 use Rattle.workerwax.proofs.layout.put_word.Statement.{statement}
 use Rattle.workerwax.proofs.layout.put_word.Tie as tie
 
-cast-out : tie.Need-overflow-cast-out
-cast-out c = search rules
+overflow_cast-out : tie.Need-overflow_cast-out
+overflow_cast-out c = search rules
 
-slice-write-out : tie.Need-slice-write-out
-slice-write-out c = search rules
+bounds-out-at : tie.Need-bounds-out-at
+bounds-out-at c = search rules
 
-cast-out-2 : tie.Need-overflow-cast-out-2
-cast-out-2 c = search rules
+overflow_cast-out-2 : tie.Need-overflow_cast-out-2
+overflow_cast-out-2 c = search rules
 
-add-out : tie.Need-overflow-add-out
-add-out c = search rules
+overflow_add-out : tie.Need-overflow_add-out
+overflow_add-out c = search rules
 
-slice-write-out-2 : tie.Need-slice-write-out-2
-slice-write-out-2 c = let a = c.args in omega (arith, c.requires, length_one a.out.now a.at a.n c.requires)
+bounds-out-at-2 : tie.Need-bounds-out-at-2
+bounds-out-at-2 c = let a = c.args in omega (arith, c.requires, length_one a.out.now a.at a.n c.requires)
 
-cast-out-3 : tie.Need-overflow-cast-out-3
-cast-out-3 c = search rules
+overflow_cast-out-3 : tie.Need-overflow_cast-out-3
+overflow_cast-out-3 c = search rules
 
-add-out-2 : tie.Need-overflow-add-out-2
-add-out-2 c = search rules
+overflow_add-out-2 : tie.Need-overflow_add-out-2
+overflow_add-out-2 c = search rules
 
-slice-write-out-3 : tie.Need-slice-write-out-3
-slice-write-out-3 c = let a = c.args in omega (arith, c.requires, length_two a.out.now a.at a.n c.requires)
+bounds-out-at-3 : tie.Need-bounds-out-at-3
+bounds-out-at-3 c = let a = c.args in omega (arith, c.requires, length_two a.out.now a.at a.n c.requires)
 
-cast-out-4 : tie.Need-overflow-cast-out-4
-cast-out-4 c = search rules
+overflow_cast-out-4 : tie.Need-overflow_cast-out-4
+overflow_cast-out-4 c = search rules
 
-add-out-3 : tie.Need-overflow-add-out-3
-add-out-3 c = search rules
+overflow_add-out-3 : tie.Need-overflow_add-out-3
+overflow_add-out-3 c = search rules
 
-slice-write-out-4 : tie.Need-slice-write-out-4
-slice-write-out-4 c = let a = c.args in omega (arith, c.requires, length_three a.out.now a.at a.n c.requires)
+bounds-out-at-4 : tie.Need-bounds-out-at-4
+bounds-out-at-4 c = let a = c.args in omega (arith, c.requires, length_three a.out.now a.at a.n c.requires)
 
-add-result : tie.Need-overflow-add-result
-add-result c = search rules
+overflow_add-result : tie.Need-overflow_add-result
+overflow_add-result c = search rules
 
-same_length : tie.Need-same-length
-same_length c = search rules
+shape_of-out : tie.Need-shape_of-out
+shape_of-out c = search rules
 
 returns : tie.Need-returns
 returns c = let a = c.args in word-put a.out.now a.at a.n c.requires
@@ -51,17 +51,17 @@ pub put_word_spec : {M : Type 1} → statement M
 put_word_spec =
     tie.close
     (tie.spec
-    cast-out
-    slice-write-out
-    cast-out-2
-    add-out
-    slice-write-out-2
-    cast-out-3
-    add-out-2
-    slice-write-out-3
-    cast-out-4
-    add-out-3
-    slice-write-out-4
-    add-result
-    same_length
+    overflow_cast-out
+    bounds-out-at
+    overflow_cast-out-2
+    overflow_add-out
+    bounds-out-at-2
+    overflow_cast-out-3
+    overflow_add-out-2
+    bounds-out-at-3
+    overflow_cast-out-4
+    overflow_add-out-3
+    bounds-out-at-4
+    overflow_add-result
+    shape_of-out
     returns)

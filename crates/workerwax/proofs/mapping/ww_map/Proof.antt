@@ -12,14 +12,14 @@ map-requires c κs = search rules
 narrow-requires : tie.Need-narrow-requires
 narrow-requires c κs =
     let k = c.before.before in
-    let a = k.before.before.before.args in
+    let a = k.args in
     omega (arith, k.map.ensures.refusal, map-narrow a.k a.m a.number (length a.rings.now))
 
-same_length : tie.Need-same-length
-same_length c = search rules
+shape_of-rings : tie.Need-shape_of-rings
+shape_of-rings c = search rules
 
 returns : tie.Need-returns
 returns c = search rules
 
 pub ww_map_spec : {M : Type 1} → statement M
-ww_map_spec = tie.close (tie.spec map-requires narrow-requires same_length returns)
+ww_map_spec = tie.close (tie.spec map-requires narrow-requires shape_of-rings returns)

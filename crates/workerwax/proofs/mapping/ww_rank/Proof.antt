@@ -15,81 +15,77 @@ use Rattle.workerwax.proofs.Ways.{shown, rank-refused, rank-four, rank-done}
 use Rattle.workerwax.proofs.mapping.ww_rank.Statement.{statement}
 use Rattle.workerwax.proofs.mapping.ww_rank.Tie as tie
 
-shown-rings-requires : tie.Need-shown-rings-requires
-shown-rings-requires c κs = search rules
+shown_rings-shown-requires : tie.Need-shown_rings-shown-requires
+shown_rings-shown-requires c κs = search rules
 
--- what was given
-abbrev start : tie.After-rank-arg → tie.Start
-start k = let shown = k.before in shown.before.before.before
-
-slice-aggregate-rank : tie.Need-slice-aggregate-rank
-slice-aggregate-rank c =
-    let a = (start c).args in
+slice_bounds-rank-end : tie.Need-slice_bounds-rank-end
+slice_bounds-rank-end c =
+    let a = c.args in
     let most = shown-within (length a.rings.now) (length a.answer.now) in
-    let within : c.before.shown-rings.result ≤ length a.rings.now = omega (arith, c.before.shown-rings.ensures, most) in
-    sym (length-take-le c.before.shown-rings.result a.rings.now within)
+    let within : c.shown_rings-shown.result ≤ length a.rings.now = omega (arith, c.shown_rings-shown.ensures, most) in
+    sym (length-take-le c.shown_rings-shown.result a.rings.now within)
 
-rank-requires : tie.Need-rank-requires
-rank-requires c κs = search rules
+rank-ranked-requires : tie.Need-rank-ranked-requires
+rank-ranked-requires c κs = search rules
 
 -- what the ranker answered to what it was shown
 ranked :
-    (k : tie.After-rank)
-    → let a = (start k.before).args in
-    k.rank.result ≡ ranked_of a.k a.m (shown a.k a.m a.rings.now a.answer.now)
-ranked k = rw k.before.before.shown-rings.ensures at k.rank.ensures
+    (k : tie.After-rank-ranked)
+    → let a = k.args in
+    k.rank-ranked.result ≡ ranked_of a.k a.m (shown a.k a.m a.rings.now a.answer.now)
+ranked k = rw k.shown_rings-shown.ensures at k.rank-ranked.ensures
 
 number_is :
-    (k : tie.After-rank)
-    → let a = (start k.before).args in
-    k.rank.result.refusal ≡ (ranked_of a.k a.m (shown a.k a.m a.rings.now a.answer.now)).refusal
+    (k : tie.After-rank-ranked)
+    → let a = k.args in
+    k.rank-ranked.result.refusal ≡ (ranked_of a.k a.m (shown a.k a.m a.rings.now a.answer.now)).refusal
 number_is k = ap (λ (r : Ranked). r.refusal) (ranked k)
 
 narrow-requires : tie.Need-narrow-requires
 narrow-requires c κs =
     let k = c.before.before in
-    let a = (start k.before).args in
+    let a = k.args in
     omega (arith, number_is k, rank-narrow a.k a.m (shown a.k a.m a.rings.now a.answer.now))
+
+returns-then-ranked-ne0 : tie.Need-returns-then-ranked-ne0
+returns-then-ranked-ne0 c =
+    let t = c.before in
+    let k = t.before.before in
+    let a = k.args in
+    rw c.narrow.ensures (rank-refused a.k a.m a.rings.now a.answer.now _ (number_is k) t.if-ranked-ne0.true)
+
+-- the call is not refused, so that the answer has its bytes
+four : (e : tie.Else-ranked-ne0) → length e.args.answer.now ≡ rank_bytes
+four e =
+    let k = e.before.before in
+    let a = k.args in
+    rank-four a.k a.m a.rings.now a.answer.now (sym (number_is k) ∙ e.if-ranked-ne0.false)
+
+put_word-requires : tie.Need-put_word-requires
+put_word-requires c κs = omega (arith, four c.before)
+
+shape_of-answer : tie.Need-shape_of-answer
+shape_of-answer c = search rules
 
 returns : tie.Need-returns
 returns c =
-    let t = c.before in
-    let k = t.before.before in
-    let a = (start k.before).args in
-    rw c.narrow.ensures (rank-refused a.k a.m a.rings.now a.answer.now _ (number_is k) t.if1.true)
-
--- the call is not refused, so that the answer has its bytes
-four : (e : tie.Else1) → length (start e.before.before.before).args.answer.now ≡ rank_bytes
-four e =
-    let k = e.before.before in
-    let a = (start k.before).args in
-    rank-four a.k a.m a.rings.now a.answer.now (sym (number_is k) ∙ e.if1.false)
-
-put-word-requires : tie.Need-put-word-requires
-put-word-requires c κs = omega (arith, four c.before)
-
-same_length : tie.Need-same-length
-same_length c = search rules
-
-returns-2 : tie.Need-returns-2
-returns-2 c =
     let w = c.before.before in
     let e = w.before.before in
     let k = e.before.before in
-    let a = (start k.before).args in
-    rank-done a.k a.m a.rings.now a.answer.now (sym (number_is k) ∙ e.if1.false) _
-    (word-whole k.rank.result.number a.answer.now _ _ (four e) w.put_word.ensures
+    let a = k.args in
+    rank-done a.k a.m a.rings.now a.answer.now (sym (number_is k) ∙ e.if-ranked-ne0.false) _
+    (word-whole k.rank-ranked.result.number a.answer.now _ _ (four e) w.put_word.ensures
     ∙ ap (λ (r : Ranked). word r.number) (ranked k))
 
 pub ww_rank_spec : {M : Type 1} → statement M
 ww_rank_spec =
     tie.close
     (tie.spec
-    shown-rings-requires
-    slice-aggregate-rank
-    rank-requires
+    shown_rings-shown-requires
+    slice_bounds-rank-end
+    rank-ranked-requires
     narrow-requires
-    returns
-    put-word-requires
-    same_length
-    returns-2)
+    returns-then-ranked-ne0
+    put_word-requires
+    shape_of-answer
+    returns)

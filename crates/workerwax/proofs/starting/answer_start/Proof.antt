@@ -11,52 +11,52 @@ use Rattle.workerwax.proofs.starting.answer_start.Tie as tie
 narrow-requires : tie.Need-narrow-requires
 narrow-requires c κs = search rules
 
-returns : tie.Need-returns
-returns c =
+returns-then-begun-ne0 : tie.Need-returns-then-begun-ne0
+returns-then-begun-ne0 c =
     let t = c.before in
-    let a = t.before.before.before.args in
-    rw c.narrow.ensures (start-refused a.begun a.answer.now (λ z. omega (arith, z, t.if1.true)))
+    let a = t.args in
+    rw c.narrow.ensures (start-refused a.begun a.answer.now (λ z. omega (arith, z, t.if-begun-ne0.true)))
 
-returns-2 : tie.Need-returns-2
-returns-2 c =
+returns-then-answer-ne28 : tie.Need-returns-then-answer-ne28
+returns-then-answer-ne28 c =
     let e = c.before in
-    let a = e.before.before.before.args in
-    start_unlent a.begun a.answer.now (omega (arith, e.if1.false)) (λ z. omega (arith, z, c.if2.true))
+    let a = e.args in
+    start_unlent a.begun a.answer.now (omega (arith, e.if-begun-ne0.false)) (λ z. omega (arith, z, c.if-answer-ne28.true))
 
-numbers-of-requires : tie.Need-numbers-of-requires
-numbers-of-requires c κs = search rules
+numbers_of-requires : tie.Need-numbers_of-requires
+numbers_of-requires c κs = search rules
 
-slice-aggregate-put-words : tie.Need-slice-aggregate-put-words
-slice-aggregate-put-words c = search rules
+slice_bounds-put_words-end : tie.Need-slice_bounds-put_words-end
+slice_bounds-put_words-end c = search rules
 
-put-words-requires : tie.Need-put-words-requires
-put-words-requires c κs =
+put_words-requires : tie.Need-put_words-requires
+put_words-requires c κs =
     let n = c.before in
     let e = n.before.before.before in
-    omega (arith, e.if2.false, ap length n.Numbers-of.ensures)
+    omega (arith, e.if-answer-ne28.false, ap length n.numbers_of.ensures)
 
-same_length : tie.Need-same-length
-same_length c = search rules
+shape_of-answer : tie.Need-shape_of-answer
+shape_of-answer c = search rules
 
-returns-3 : tie.Need-returns-3
-returns-3 c =
+returns : tie.Need-returns
+returns c =
     let w = c.before.before in
     let n = w.before.before in
     let e = n.before.before.before in
     let o = e.before in
-    let a = o.before.before.before.args in
-    start-done a.begun a.answer.now _ (omega (arith, o.if1.false)) (omega (arith, e.if2.false))
-    (w.put-words.ensures ∙ ap words n.Numbers-of.ensures)
+    let a = o.args in
+    start-done a.begun a.answer.now _ (omega (arith, o.if-begun-ne0.false)) (omega (arith, e.if-answer-ne28.false))
+    (w.put_words.ensures ∙ ap words n.numbers_of.ensures)
 
 pub answer_start_spec : {M : Type 1} → statement M
 answer_start_spec =
     tie.close
     (tie.spec
     narrow-requires
-    returns
-    returns-2
-    numbers-of-requires
-    slice-aggregate-put-words
-    put-words-requires
-    same_length
-    returns-3)
+    returns-then-begun-ne0
+    returns-then-answer-ne28
+    numbers_of-requires
+    slice_bounds-put_words-end
+    put_words-requires
+    shape_of-answer
+    returns)

@@ -13,98 +13,91 @@ use Rattle.workerwax.proofs.Ways.{parameters_refused, parameters_unlent, paramet
 use Rattle.workerwax.proofs.starting.ww_parameters.Statement.{statement}
 use Rattle.workerwax.proofs.starting.ww_parameters.Tie as tie
 
-asked-of-requires : tie.Need-asked-of-requires
-asked-of-requires c κs = search rules
+asked_of-asked-requires : tie.Need-asked_of-asked-requires
+asked_of-asked-requires c κs = search rules
 
-work-out-requires : tie.Need-work-out-requires
-work-out-requires c κs = search rules
+work_out-w-requires : tie.Need-work_out-w-requires
+work_out-w-requires c κs = search rules
 
-enum-known-w : tie.Need-enum-known-w
-enum-known-w c = search rules
+enum_known-w : tie.Need-enum_known-w
+enum_known-w c = search rules
 
-enum_told : tie.Need-enum-told
-enum_told c = search rules
+enum_told-1 : tie.Need-enum_told-1
+enum_told-1 c = search rules
 
-refusal-of-requires : tie.Need-refusal-of-requires
-refusal-of-requires c κs = search rules
+refusal_of-requires : tie.Need-refusal_of-requires
+refusal_of-requires c κs = search rules
 
 -- what is asked, from the settings worked out
-abbrev start : tie.After-work-out → tie.Start
-start k = k.before.before.before
+abbrev given : tie.After-work_out-w → Asked
+given k = let a = k.args in asked a.role a.s a.n a.shaping a.mark
 
-abbrev given : tie.After-work-out → Asked
-given k = let a = (start k).args in asked a.role a.s a.n a.shaping a.mark
-
-worked : (k : tie.After-work-out) → k.work-out.result ≡ worked_of (given k)
-worked k = k.work-out.ensures ∙ ap worked_of k.before.asked_of.ensures
+worked : (k : tie.After-work_out-w) → k.work_out-w.result ≡ worked_of (given k)
+worked k = k.work_out-w.ensures ∙ ap worked_of k.asked_of-asked.ensures
 
 -- they were refused
-denied : (k : tie.After-enum-told) → worked_of (given k.before.before) ≡ Refused k.enum_told.given.0.0
-denied k = sym (worked k.before.before) ∙ k.enum_told.given.1
+denied : (k : tie.In_default) → worked_of (given k.before) ≡ Refused k.in_default.field-0
+denied k = sym (worked k.before) ∙ k.in_default.is
 
 -- or accepted
-accepted : (k : tie.After-w) → worked_of (given k.before.before) ≡ Accepted k.w.given.0.0
-accepted k = sym (worked k.before.before) ∙ k.w.given.1
+accepted : (k : tie.In-Accepted) → worked_of (given k.before) ≡ Accepted k.in-Accepted.c
+accepted k = sym (worked k.before) ∙ k.in-Accepted.is
 
 -- the number of the refused settings
-denied-number : (k : tie.After-refusal-of) → k.refusal-of.result ≡ k.before.enum_told.given.0.0
-denied-number k = k.refusal-of.ensures ∙ ap number_of k.before.enum_told.given.1
+denied-number : (k : tie.After-refusal_of) → k.refusal_of.result ≡ k.in_default.field-0
+denied-number k = k.refusal_of.ensures ∙ ap number_of k.in_default.is
 
 narrow-requires : tie.Need-narrow-requires
 narrow-requires c κs =
     let k = c.before in
-    omega (arith, denied-number c, ap number_of (denied k), settings-narrow (given k.before.before))
+    omega (arith, denied-number c, ap number_of (denied k), settings-narrow (given k.before))
+
+returns-in_default : tie.Need-returns-in_default
+returns-in_default c =
+    let n = c.before in
+    let k = n.before.before in
+    rw (c.narrow.ensures, denied-number n) (parameters_refused (given k) c.args.answer.now _ (denied n.before))
+
+returns-then-answer-ne32 : tie.Need-returns-then-answer-ne32
+returns-then-answer-ne32 c =
+    let w = c.before in
+    parameters_unlent (given w.before) c.args.answer.now _ (accepted w) (λ z. omega (arith, z, c.if-answer-ne32.true))
+
+values_of-requires : tie.Need-values_of-requires
+values_of-requires c κs = search rules
+
+slice_bounds-put_words-end : tie.Need-slice_bounds-put_words-end
+slice_bounds-put_words-end c = search rules
+
+put_words-requires : tie.Need-put_words-requires
+put_words-requires c κs =
+    let v = c.before in
+    omega (arith, v.if-answer-ne32.false, ap length v.values_of.ensures)
+
+shape_of-answer : tie.Need-shape_of-answer
+shape_of-answer c = search rules
 
 returns : tie.Need-returns
 returns c =
-    let n = c.before in
-    let k = n.before.before.before in
-    rw (c.narrow.ensures, denied-number n) (parameters_refused (given k) (start k).args.answer.now _ (denied n.before))
-
-returns-2 : tie.Need-returns-2
-returns-2 c =
-    let w = c.before.before in
-    let k = w.before.before in
-    parameters_unlent (given k) (start k).args.answer.now _ (accepted w) (λ z. omega (arith, z, c.if1.true))
-
-values-of-requires : tie.Need-values-of-requires
-values-of-requires c κs = search rules
-
-slice-aggregate-put-words : tie.Need-slice-aggregate-put-words
-slice-aggregate-put-words c = search rules
-
-put-words-requires : tie.Need-put-words-requires
-put-words-requires c κs =
-    let v = c.before in
-    omega (arith, v.before.before.if1.false, ap length v.values_of.ensures)
-
-same_length : tie.Need-same-length
-same_length c = search rules
-
-returns-3 : tie.Need-returns-3
-returns-3 c =
-    let put = c.before.before in
-    let v = put.before.before in
-    let e = v.before.before in
-    let w = e.before.before in
-    let k = w.before.before in
-    parameters_done (given k) (start k).args.answer.now _ _ (accepted w) (omega (arith, e.if1.false))
-    (put.put-words.ensures ∙ ap words v.values_of.ensures)
+    let e = c.before.before.before.before.before.before in
+    let w = e.before in
+    parameters_done (given w.before) c.args.answer.now _ _ (accepted w) (omega (arith, c.if-answer-ne32.false))
+    (c.put_words.ensures ∙ ap words c.values_of.ensures)
 
 pub ww_parameters_spec : {M : Type 1} → statement M
 ww_parameters_spec =
     tie.close
     (tie.spec
-    asked-of-requires
-    work-out-requires
-    enum-known-w
-    enum_told
-    refusal-of-requires
+    asked_of-asked-requires
+    work_out-w-requires
+    enum_known-w
+    enum_told-1
+    refusal_of-requires
     narrow-requires
-    returns
-    returns-2
-    values-of-requires
-    slice-aggregate-put-words
-    put-words-requires
-    same_length
-    returns-3)
+    returns-in_default
+    returns-then-answer-ne32
+    values_of-requires
+    slice_bounds-put_words-end
+    put_words-requires
+    shape_of-answer
+    returns)

@@ -8,27 +8,27 @@ use Rattle.workerwax.proofs.Refusals.{short_start-narrow}
 use Rattle.workerwax.proofs.starting.ww_short_start.Statement.{statement}
 use Rattle.workerwax.proofs.starting.ww_short_start.Tie as tie
 
-short-start-requires : tie.Need-short-start-requires
-short-start-requires c κs = search rules
+short_start-begun-requires : tie.Need-short_start-begun-requires
+short_start-begun-requires c κs = search rules
 
 -- what the start answered
 begun :
-    (k : tie.After-short-start)
-    → let a = k.before.before.args in
-    k.short-start.result ≡ short_started_of a.role a.s a.n a.mark
-begun k = k.short-start.ensures
+    (k : tie.After-short_start-begun)
+    → let a = k.args in
+    k.short_start-begun.result ≡ short_started_of a.role a.s a.n a.mark
+begun k = k.short_start-begun.ensures
 
-answer-start-requires : tie.Need-answer-start-requires
-answer-start-requires c κs =
+answer_start-requires : tie.Need-answer_start-requires
+answer_start-requires c κs =
     let k = c.before in
-    let a = k.before.before.args in
+    let a = k.args in
     subst (λ (r : Started). r.refusal < 2 ^ 32) (sym (begun k)) (short_start-narrow a.role a.s a.n a.mark)
 
-same_length : tie.Need-same-length
-same_length c = search rules
+shape_of-answer : tie.Need-shape_of-answer
+shape_of-answer c = search rules
 
 returns : tie.Need-returns
-returns c = let r = c.before.before in rw (begun r.before.before) at r.answer-start.ensures
+returns c = let r = c.before.before in rw (begun r.before.before) at r.answer_start.ensures
 
 pub ww_short_start_spec : {M : Type 1} → statement M
-ww_short_start_spec = tie.close (tie.spec short-start-requires answer-start-requires same_length returns)
+ww_short_start_spec = tie.close (tie.spec short_start-begun-requires answer_start-requires shape_of-answer returns)
