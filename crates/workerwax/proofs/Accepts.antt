@@ -1,9 +1,9 @@
 -- Which calls get 0, for whatever outcome fits a call's contract: exactly those that say nothing wrong, with slices of exact lengths.
---     parameters-accepts     what is asked is right
+--     parameters_accepts     what is asked is right
 --     map-accepts            K and M are permitted, and the number is below 2^K
 --     rank-accepts           K and M are permitted, and fewer than 2^K sets stand before the rings, which are below M
 --     start-accepts          the settings are right, the register is below 2^23 and Z at most 3
---     short-start-accepts    the settings are right, with shaping 0
+--     short_start-accepts    the settings are right, with shaping 0
 --     write-accepts          the state is one that a start answers, and the bytes are bits
 --     read-accepts           the state is one that a start answers, and no test refuses the labels that the bytes hold
 --     info0-read-accepts     the bits are those of Table 14 for fields that it can say

@@ -1,11 +1,11 @@
 -- Demand 3 over the calls that C makes, whatever outcome fits their contracts. First in document 01's own words, by how many sets of all
 -- below M stand before a set, and then each call undone by the other. K and M are permitted, and x is a set of rings below M.
---     ranks-by-standing      ww_rank answers 0 and the word S for x exactly when S sets stand before x and S < 2^K
---     refuses-by-standing    ww_rank refuses x with 11 exactly when 2^K sets or more stand before x
---     maps-by-standing       for S < 2^K ww_map answers 0, and its set is x exactly when S sets stand before x
---     maps-and-ranks         for S < 2^K both calls answer 0, S sets stand before the set, and the answer's word is S
---     ranks-and-maps         for a set that ww_rank accepts, ww_map gives the set back for the answer's word
---     refuses-heavy          a set before which 2^K sets or more stand is refused with 11, and the answer is as it was
+--     ranks_by_standing      ww_rank answers 0 and the word S for x exactly when S sets stand before x and S < 2^K
+--     refuses_by_standing    ww_rank refuses x with 11 exactly when 2^K sets or more stand before x
+--     maps_by_standing       for S < 2^K ww_map answers 0, and its set is x exactly when S sets stand before x
+--     maps_and_ranks         for S < 2^K both calls answer 0, S sets stand before the set, and the answer's word is S
+--     ranks_and_maps         for a set that ww_rank accepts, ww_map gives the set back for the answer's word
+--     refuses_heavy          a set before which 2^K sets or more stand is refused with 11, and the answer is as it was
 -- Assumes nothing.
 use mathlib.Core.List.{List, [], ◌∷◌}
 use mathlib.Core.Logic.{◌↔◌}

@@ -3,7 +3,7 @@
 --     start-words                  the state that a start was asked for
 --     write-words, read-words      N and the next state
 --     write-next, read_next        that this state is again one that a start answers
---     write-last, read-last        and that its Z is the last Z among the labels that the bytes hold
+--     write_last, read_last        and that its Z is the last Z among the labels that the bytes hold
 -- Assumes nothing.
 use mathlib.Core.List.{List, ◌∷◌}
 use mathlib.Core.Path.{◌≡◌, refl, sym, ap, subst, ◌∙◌}
