@@ -21,12 +21,13 @@ PARTS = ("src", "specs", "proofs")
 NEED = 3_000_000_000
 
 
-def linked(folder, to):
-    """Copies what rt has kept, by links where these can be made: rt replaces such a file and never writes into it."""
+def linked(folder, to, is_linked):
+    """Copies what rt has kept, and gives the files that is_linked names a second name where that can be done: rt puts another file in the
+    place of such a file and never writes into it."""
 
     def copy(one, other):
         with contextlib.suppress(OSError):
-            if one.endswith((".oantt", ".a", ".json")):
+            if is_linked(one):
                 return os.link(one, other)
         return shutil.copy2(one, other)
 
@@ -62,13 +63,13 @@ def copy_to(lane):
         for part in PARTS:
             if os.path.isdir(f"{ROOT}/crates/{name}/{part}"):
                 shutil.copytree(f"{ROOT}/crates/{name}/{part}", f"{lane}/crates/{name}/{part}")
-        linked(f"{ROOT}/crates/{name}/out/rlib", f"{lane}/crates/{name}/out/rlib")
+        linked(f"{ROOT}/crates/{name}/out/rlib", f"{lane}/crates/{name}/out/rlib", lambda file: True)
 
 
 def check(lane, crate, *flags):
     """Checks a crate of the copy as its files now stand, over what the checkout has kept of it, and returns all that rt said."""
     folder = f"{lane}/crates/{crate}"
-    linked(f"{ROOT}/crates/{crate}/out/incremental", f"{folder}/out/incremental")
+    linked(f"{ROOT}/crates/{crate}/out/incremental", f"{folder}/out/incremental", lambda file: file.endswith(".oantt"))
     how = {"stdin": subprocess.DEVNULL, "stdout": subprocess.PIPE, "stderr": subprocess.STDOUT, "errors": "replace"}
     ran = subprocess.run(["rt", "check", "--jobs", "1", *flags], cwd=folder, **how)
     return ran.returncode, ran.stdout
@@ -84,7 +85,8 @@ def side_by_side(call, things):
     os.makedirs(room, 0o700, exist_ok=True)
     if os.lstat(room).st_uid != os.geteuid() or os.path.islink(room):
         sys.exit(f"{room} is not this user's folder")
-    with open(f"{room}.lock", "w", encoding="ascii") as lock:
+    os.makedirs(f"{ROOT}/target", exist_ok=True)
+    with open(f"{ROOT}/target/copies.lock", "w", encoding="ascii") as lock:
         fcntl.flock(lock, fcntl.LOCK_EX)
         try:
             free = queue.Queue()
