@@ -25,14 +25,12 @@ fn keys(m: &[u8; 8]) -> [u64; 8] {
 fn before(x: &[u8; 8], y: &[u8; 8]) -> bool {
     let a = keys(x);
     let b = keys(y);
-    let mut i = 0;
-    while i < 8 {
+    for i in 0..8 {
         let of_x = a[i];
         let of_y = b[i];
         if of_x != of_y {
             return of_x < of_y;
         }
-        i += 1;
     }
     false
 }
@@ -43,11 +41,9 @@ pub fn plain_set(m: u64, number: u64) -> [u8; 8]
 {
     let mut set = [0u8; 8];
     let mut rest = number;
-    let mut i = 0;
-    while i < 8 {
+    for i in 0..8 {
         set[i] = (rest % m) as u8;
         rest /= m;
-        i += 1;
     }
     set
 }
@@ -57,13 +53,11 @@ pub fn standing(m: u64, sets: u64, x: &[u8; 8]) -> u64
     requires { (1 ≤ m) × (m ≤ 18) }
 {
     let mut count = 0;
-    let mut i = 0;
-    while i < sets {
+    for i in 0..sets {
         let y = plain_set(m, i);
         if before(&y, x) {
             count += 1;
         }
-        i += 1;
     }
     count
 }

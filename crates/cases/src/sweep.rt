@@ -4,7 +4,7 @@ ghost use Rattle.std.specs.Prelude.{◌≤◌};
 use crate::order::{plain_set, standing};
 
 // What a sweep asks.
-#[derive(Drop)]
+#[derive(Clone, Copy)]
 pub enum Question {
     // Is the number mapped to rings that are ranked to it?
     ComesBack,
@@ -61,12 +61,10 @@ pub fn agreed(question: Question, k: u64, m: u64, swept: u64) -> u64
     requires { (1 ≤ m) × (m ≤ 18) }
 {
     let mut count = 0;
-    let mut i = 0;
-    while i < swept {
+    for i in 0..swept {
         if holds(question, k, m, swept, i) {
             count += 1;
         }
-        i += 1;
     }
     count
 }

@@ -1,6 +1,8 @@
 // Workerwax, program `infocases`: the check of V.34's clause 10.1.2.3.2, INFO0 read and written in worked cases, and how many of all sets
 // of fields come back. Its expected output was worked out apart, with another program's CRC, so that the proved code is held to V.34 and
 // not to itself.
+#![tactic(auto)]
+
 mod accepted;
 mod check;
 mod reading;
@@ -9,11 +11,13 @@ mod show;
 mod sweep;
 mod writing;
 
-fn main() {
-    check::cases();
-    accepted::cases();
-    refused::forms();
-    refused::contents();
-    writing::cases();
-    sweep::sweeps();
+use std::io;
+
+fn main(rt: HostRuntime) -> io::Result<()> {
+    check::cases(&rt)?;
+    accepted::cases(&rt)?;
+    refused::forms(&rt)?;
+    refused::contents(&rt)?;
+    writing::cases(&rt)?;
+    sweep::sweeps(&rt)
 }

@@ -4,6 +4,7 @@ ghost use Rattle.std.specs.Prelude.{◌≤◌};
 use crate::show::{digits, numbers, outcome, text};
 use info::info0::{Info0, Info0Read, read};
 use spelling::spell::spell;
+use std::io;
 
 // Where the parts of a sequence begin: fill, sync, bits 12 to 28, their check, fill, and what stands behind.
 pub const STARTS: [usize; 6] = [0, 4, 12, 29, 45, 49];
@@ -42,32 +43,33 @@ fn read_front(bits: [u8; 51], lent: usize) -> Info0Read
 }
 
 // The reader is lent the first bytes of 51, and all are shown.
-fn shown(bits: [u8; 51], lent: usize)
+fn shown(rt: &impl Print, bits: [u8; 51], lent: usize) -> io::Result<()>
     requires { lent ≤ 51 }
 {
     let answer = read_front(bits, lent);
-    text(b"read");
-    digits(&bits, &STARTS);
-    outcome(lent, answer.refusal);
+    text(rt, b"read")?;
+    digits(rt, &bits, &STARTS)?;
+    outcome(rt, lent, answer.refusal)?;
     let found = answer.fields;
-    numbers(&named(found));
-    text(b"\n");
+    numbers(rt, &named(found))?;
+    text(rt, b"\n")
 }
 
-pub fn reads(sequence: u64) {
-    shown(spelled(sequence), 49);
+pub fn reads(rt: &impl Print, sequence: u64) -> io::Result<()> {
+    shown(rt, spelled(sequence), 49)
 }
 
 // Another number of bytes than 49, at most 51.
-pub fn reads_lent(sequence: u64, lent: usize) {
+pub fn reads_lent(rt: &impl Print, sequence: u64, lent: usize) -> io::Result<()> {
     if lent <= 51 {
-        shown(spelled(sequence), lent);
+        shown(rt, spelled(sequence), lent)?;
     }
+    Ok(())
 }
 
 // A byte in the place of a bit. The remainder is `at` itself, and spares a test.
-pub fn reads_byte(sequence: u64, at: usize, byte: u8) {
+pub fn reads_byte(rt: &impl Print, sequence: u64, at: usize, byte: u8) -> io::Result<()> {
     let mut bits = spelled(sequence);
     bits[at % 51] = byte;
-    shown(bits, 49);
+    shown(rt, bits, 49)
 }

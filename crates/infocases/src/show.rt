@@ -1,41 +1,40 @@
 // Words, numbers and bits on standard output.
-use libc::STDOUT_FILENO;
+use std::io;
 
-pub fn text(words: &[u8]) {
-    io::write_all(STDOUT_FILENO, words);
+pub fn text(rt: &impl Print, words: &[u8]) -> io::Result<()> {
+    rt.write_all(words)
 }
 
 // A number behind the words that say what it is.
-pub fn say(words: &[u8], n: u64) {
-    text(words);
-    io::print_decimal(STDOUT_FILENO, n);
+pub fn say(rt: &impl Print, words: &[u8], n: u64) -> io::Result<()> {
+    text(rt, words)?;
+    print!(rt; "{n}")
 }
 
 // A number behind a space.
-pub fn spaced(n: u64) {
-    say(b" ", n);
+pub fn spaced(rt: &impl Print, n: u64) -> io::Result<()> {
+    say(rt, b" ", n)
 }
 
 // A number behind the words, as so many hexadecimal digits.
-pub fn say_hex(words: &[u8], n: u64, places: usize) {
-    text(words);
-    io::print_hex(STDOUT_FILENO, n, places);
+pub fn say_hex(rt: &impl Print, words: &[u8], n: u64, places: usize) -> io::Result<()> {
+    text(rt, words)?;
+    print!(rt; "{n:0places$x}")
 }
 
 // How many bytes were lent, and the refusal number.
-pub fn outcome(lent: usize, refusal: u64) {
-    say(b", lent ", lent as u64);
-    say(b": ", refusal);
-    text(b",");
+pub fn outcome(rt: &impl Print, lent: usize, refusal: u64) -> io::Result<()> {
+    say(rt, b", lent ", lent as u64)?;
+    say(rt, b": ", refusal)?;
+    text(rt, b",")
 }
 
 // Each number behind a space.
-pub fn numbers(each: &[u64]) {
-    let mut i = 0;
-    while i < each.len() {
-        spaced(each[i]);
-        i += 1;
+pub fn numbers(rt: &impl Print, each: &[u64]) -> io::Result<()> {
+    for number in each {
+        spaced(rt, *number)?;
     }
+    Ok(())
 }
 
 // Is a place the first one of part k?
@@ -46,20 +45,19 @@ fn begins(starts: &[usize], k: usize, place: usize) -> bool {
     false
 }
 
-fn digit(byte: u8) {
-    io::print_decimal(STDOUT_FILENO, byte as u64);
+fn digit(rt: &impl Print, byte: u8) -> io::Result<()> {
+    print!(rt; "{}", byte as u64)
 }
 
 // Bytes below ten, a digit to each, with a space before each part. `starts` has the first place of each part, in order.
-pub fn digits(bytes: &[u8], starts: &[usize]) {
+pub fn digits(rt: &impl Print, bytes: &[u8], starts: &[usize]) -> io::Result<()> {
     let mut k = 0;
-    let mut i = 0;
-    while i < bytes.len() {
+    for (i, byte) in bytes.iter().enumerate() {
         if begins(starts, k, i) {
-            text(b" ");
+            text(rt, b" ")?;
             k += 1;
         }
-        digit(bytes[i]);
-        i += 1;
+        digit(rt, *byte)?;
     }
+    Ok(())
 }

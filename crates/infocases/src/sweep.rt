@@ -5,6 +5,7 @@ use fields::check::put_crc;
 use info::info0::{Info0, numbers_of, read, write};
 use spelling::check::tested_crc;
 use spelling::same::same;
+use std::io;
 
 // 01110010, which are the digits of 2 + 4 + 8 + 64.
 const SYNC: u64 = 78;
@@ -47,12 +48,10 @@ fn comes_back(i: u64) -> bool {
 // How many of the sets are.
 fn came_back() -> u64 {
     let mut count = 0;
-    let mut i = 0;
-    while i < 73728 {
+    for i in 0..73728 {
         if comes_back(i) {
             count += 1;
         }
-        i += 1;
     }
     count
 }
@@ -70,28 +69,29 @@ fn refusal_of(i: u64) -> u64 {
 // How many of all 131,072 bodies get the number.
 fn answered(number: u64) -> u64 {
     let mut count = 0;
-    let mut i = 0;
-    while i < 131072 {
+    for i in 0..131072 {
         if refusal_of(i) == number {
             count += 1;
         }
-        i += 1;
     }
     count
 }
 
-pub fn sweeps() {
+pub fn sweeps(rt: &impl Print) -> io::Result<()> {
     say(
+        rt,
         b"\nsweeps\nof 73728 permitted sets of fields, written and read back as they were: ",
         came_back(),
-    );
+    )?;
     say(
+        rt,
         b"\nof 131072 bodies of 17 bits with their own check, read with 0: ",
         answered(0),
-    );
+    )?;
     say(
+        rt,
         b"\nof 131072 bodies of 17 bits with their own check, refused with 18: ",
         answered(18),
-    );
-    text(b"\n");
+    )?;
+    text(rt, b"\n")
 }

@@ -5,6 +5,7 @@ use crate::reading::STARTS;
 use crate::show;
 use crate::show::{digits, outcome, text};
 use info::info0::{fields_of, write};
+use std::io;
 
 const MIXED: [u64; 14] = [1, 0, 1, 1, 0, 0, 1, 1, 0, 3, 0, 1, 1, 0];
 
@@ -29,40 +30,42 @@ fn write_into(numbers: [u64; 14], space: &mut [u8], lent: usize) -> u64
 
 // The writer is lent the first bytes of 51 that hold 9, and all are shown after the call: a refusal leaves them as they were, and a
 // success writes exactly 49.
-fn writes(k: usize, number: u64, lent: usize)
+fn writes(rt: &impl Print, k: usize, number: u64, lent: usize) -> io::Result<()>
     requires { (k < 14) × (lent ≤ 51) }
 {
     let numbers = changed(k, number);
     let mut space = [9u8; 51];
     let refusal = write_into(numbers, &mut space, lent);
-    text(b"write");
-    show::numbers(&numbers);
-    outcome(lent, refusal);
-    digits(&space, &STARTS);
-    text(b"\n");
+    text(rt, b"write")?;
+    show::numbers(rt, &numbers)?;
+    outcome(rt, lent, refusal)?;
+    digits(rt, &space, &STARTS)?;
+    text(rt, b"\n")
 }
 
 // One above the range of each field, and two numbers that a cast to fewer bits would take for 1 and 0.
-fn above() {
-    let mut k = 0;
-    while k < 14 {
-        writes(k, ABOVE[k], 49);
-        writes(k, 4294967297, 49);
-        writes(k, 9223372036854775808, 49);
-        k += 1;
+fn above(rt: &impl Print) -> io::Result<()> {
+    for k in 0..14 {
+        writes(rt, k, ABOVE[k], 49)?;
+        writes(rt, k, 4294967297, 49)?;
+        writes(rt, k, 9223372036854775808, 49)?;
     }
+    Ok(())
 }
 
 // Field 9 is the difference, 3 in the mixed fields and 5 at most.
-pub fn cases() {
-    text(b"\nINFO0 written\n");
-    writes(9, 3, 49);
-    text(b"\n8: not 49 bytes lent; in the two last lines a field is out of its range too\n");
-    writes(9, 3, 0);
-    writes(9, 3, 48);
-    writes(9, 3, 50);
-    writes(9, 6, 48);
-    writes(9, 6, 50);
-    text(b"\n18: a field out of its range\n");
-    above();
+pub fn cases(rt: &impl Print) -> io::Result<()> {
+    text(rt, b"\nINFO0 written\n")?;
+    writes(rt, 9, 3, 49)?;
+    text(
+        rt,
+        b"\n8: not 49 bytes lent; in the two last lines a field is out of its range too\n",
+    )?;
+    writes(rt, 9, 3, 0)?;
+    writes(rt, 9, 3, 48)?;
+    writes(rt, 9, 3, 50)?;
+    writes(rt, 9, 6, 48)?;
+    writes(rt, 9, 6, 50)?;
+    text(rt, b"\n18: a field out of its range\n")?;
+    above(rt)
 }

@@ -1,6 +1,7 @@
 // The scrambler's two worked responses (clause 7): a 1 into an empty register, then 23 zeros, and the places of the ones that come out.
 use crate::show::{spaced, text};
 use scrambler::{pushed, through};
+use std::io;
 
 fn is_first(i: u64) -> u64 {
     if i == 0 { 1 } else { 0 }
@@ -15,22 +16,20 @@ fn pushed_on(held: u64, bit: u64) -> u64 {
     pushed(held % 8388608, bit % 2)
 }
 
-fn response(words: &[u8], role: u64) {
-    text(words);
+fn response(rt: &impl Print, words: &[u8], role: u64) -> io::Result<()> {
+    text(rt, words)?;
     let mut held = 0;
-    let mut i = 0;
-    while i < 24 {
+    for i in 0..24 {
         let bit = out_bit(role, held, is_first(i));
         if bit == 1 {
-            spaced(i);
+            spaced(rt, i)?;
         }
         held = pushed_on(held, bit);
-        i += 1;
     }
-    text(b"\n");
+    text(rt, b"\n")
 }
 
-pub fn responses() {
-    response(b"scrambler, calling end: ones at", 0);
-    response(b"scrambler, answering end: ones at", 1);
+pub fn responses(rt: &impl Print) -> io::Result<()> {
+    response(rt, b"scrambler, calling end: ones at", 0)?;
+    response(rt, b"scrambler, answering end: ones at", 1)
 }

@@ -1,21 +1,21 @@
 // Words and numbers on standard output.
-use libc::STDOUT_FILENO;
+use std::io;
 
-pub fn text(words: &[u8]) {
-    io::write_all(STDOUT_FILENO, words);
+pub fn text(rt: &impl Print, words: &[u8]) -> io::Result<()> {
+    rt.write_all(words)
 }
 
-fn number(n: u64) {
-    io::print_decimal(STDOUT_FILENO, n);
+fn number(rt: &impl Print, n: u64) -> io::Result<()> {
+    print!(rt; "{n}")
 }
 
 // A number behind the words that say what it is.
-pub fn say(words: &[u8], n: u64) {
-    text(words);
-    number(n);
+pub fn say(rt: &impl Print, words: &[u8], n: u64) -> io::Result<()> {
+    text(rt, words)?;
+    number(rt, n)
 }
 
 // A number behind a space.
-pub fn spaced(n: u64) {
-    say(b" ", n);
+pub fn spaced(rt: &impl Print, n: u64) -> io::Result<()> {
+    say(rt, b" ", n)
 }

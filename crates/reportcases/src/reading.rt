@@ -7,6 +7,7 @@ use crate::show::{count, named, outcome, say, say_hex, sequence, text};
 use info::info1c::{Report, read};
 use offset::reading::{is_reading, pattern_of};
 use spelling::spell::spell;
+use std::io;
 
 // Bits 0 to 51 and bits 52 to 108, each as a binary number, and two ones behind them.
 pub fn spelled(front: u64, back: u64) -> [u8; 111] {
@@ -40,27 +41,27 @@ fn read_front(bits: [u8; 111], lent: usize) -> Report
 }
 
 // The fields, the count, whether there is a reading, and the bits of its double.
-fn told(answer: Report)
+fn told(rt: &impl Print, answer: Report) -> io::Result<()>
     requires { NoNan answer.reading }
 {
-    named(answer.fields);
-    count(answer.count);
+    named(rt, answer.fields)?;
+    count(rt, answer.count)?;
     let reading = answer.reading;
-    say(b", reading ", is_reading(reading));
-    say_hex(b" ", pattern_of(reading), 16);
-    text(b"\n");
+    say(rt, b", reading ", is_reading(reading))?;
+    say_hex(rt, b" ", pattern_of(reading), 16)?;
+    text(rt, b"\n")
 }
 
 // The reader is lent the first bytes of 111, and all are shown. The remainder is their number itself, and spares a test.
-pub fn reads(bits: [u8; 111], lent: usize) {
+pub fn reads(rt: &impl Print, bits: [u8; 111], lent: usize) -> io::Result<()> {
     let answer = read_front(bits, lent % 112);
-    text(b"read");
-    sequence(&bits);
-    outcome(lent, answer.refusal);
-    told(answer);
+    text(rt, b"read")?;
+    sequence(rt, &bits)?;
+    outcome(rt, lent, answer.refusal)?;
+    told(rt, answer)
 }
 
 // The mixed sequence with another offset and check.
-pub fn reads_end(end: u64) {
-    reads(mixed(end), 109);
+pub fn reads_end(rt: &impl Print, end: u64) -> io::Result<()> {
+    reads(rt, mixed(end), 109)
 }

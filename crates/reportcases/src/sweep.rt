@@ -7,6 +7,7 @@ use fields::check::put_crc;
 use info::info1c::{fields_of, numbers_of, read, write};
 use spelling::check::tested_crc;
 use spelling::same::same;
+use std::io;
 use std::num::wrapping_add_u64;
 
 // The mixed fields with a count, written.
@@ -30,22 +31,21 @@ fn refusal_of(i: u64, from: usize) -> u64 {
 // How many of six times sixteen numbers get the refusal number.
 fn answered(from: usize, refusal: u64) -> u64 {
     let mut count = 0;
-    let mut i = 0;
-    while i < 96 {
+    for i in 0..96 {
         count = wrapping_add_u64(count, (refusal_of(i, from) == refusal) as u64);
-        i += 1;
     }
     count
 }
 
-fn answers(words: &[u8], from: usize) {
-    text(words);
+fn answers(rt: &impl Print, words: &[u8], from: usize) -> io::Result<()> {
+    text(rt, words)?;
     say(
+        rt,
         b" 0 to 15 in each block, with their check: read with 0 ",
         answered(from, 0),
-    );
-    say(b", refused with 18 ", answered(from, 18));
-    text(b"\n");
+    )?;
+    say(rt, b", refused with 18 ", answered(from, 18))?;
+    text(rt, b"\n")
 }
 
 // Number i of 8,192 sets: each power reduction, further reduction and MD once, and every carrier, filter and rate in every block.
@@ -94,21 +94,20 @@ fn comes_back(numbers: [u64; 22], count: i32) -> bool {
 // How many of the sets are, each with another count than the one before.
 fn came_back() -> u64 {
     let mut count = 0;
-    let mut i = 0;
-    while i < 8192 {
+    for i in 0..8192 {
         count = wrapping_add_u64(count, comes_back(permitted(i), count_of(i)) as u64);
-        i += 1;
     }
     count
 }
 
 // The filter at 2400 begins at bit 26, the rate at bit 30.
-pub fn sweeps() {
-    answers(b"filters", 26);
-    answers(b"rates", 30);
+pub fn sweeps(rt: &impl Print) -> io::Result<()> {
+    answers(rt, b"filters", 26)?;
+    answers(rt, b"rates", 30)?;
     say(
+        rt,
         b"of 8192 power reductions, further reductions and MDs, read back as written: ",
         came_back(),
-    );
-    text(b"\n");
+    )?;
+    text(rt, b"\n")
 }

@@ -4,6 +4,7 @@ ghost use Rattle.std.specs.Prelude.{◌≤◌, length};
 
 use crate::show::{count, named, outcome, sequence, text};
 use info::info1c::{Info1c, fields_of, write};
+use std::io;
 
 // The fields of the mixed sequence.
 pub const MIXED: [u64; 22] = [
@@ -40,25 +41,25 @@ fn write_into(fields: Info1c, count: i32, space: &mut [u8], lent: usize) -> u64
 
 // The writer is lent the first bytes of 111 that hold 9, and all are shown after the call: a refusal leaves them as they were, and a
 // success writes exactly 109.
-fn shown(fields: Info1c, offset: i32, lent: usize)
+fn shown(rt: &impl Print, fields: Info1c, offset: i32, lent: usize) -> io::Result<()>
     requires { lent ≤ 111 }
 {
     let mut space = [9u8; 111];
     let refusal = write_into(fields, offset, &mut space, lent);
-    outcome(lent, refusal);
-    sequence(&space);
-    text(b"\n");
+    outcome(rt, lent, refusal)?;
+    sequence(rt, &space)?;
+    text(rt, b"\n")
 }
 
 // The mixed fields with a number in the place of field k. The remainders are k and the number of bytes themselves, and spare a test.
-fn writes(k: usize, number: u64, offset: i32, lent: usize) {
+fn writes(rt: &impl Print, k: usize, number: u64, offset: i32, lent: usize) -> io::Result<()> {
     let mut numbers = MIXED;
     numbers[k % 21] = number;
     let fields = fields_of(numbers);
-    text(b"write");
-    named(fields);
-    count(offset);
-    shown(fields, offset, lent % 112);
+    text(rt, b"write")?;
+    named(rt, fields)?;
+    count(rt, offset)?;
+    shown(rt, fields, offset, lent % 112)
 }
 
 // One above the range of field k. From field 3 on they are carrier, filter and rate, six times.
@@ -75,30 +76,29 @@ fn above(k: usize) -> u64 {
 }
 
 // Each field above its range, and a number that a cast to 32 bits would take for 1.
-fn all_above() {
-    let mut k = 0;
-    while k < 21 {
-        writes(k, above(k), -37, 109);
-        writes(k, 4294967297, -37, 109);
-        k += 1;
+fn all_above(rt: &impl Print) -> io::Result<()> {
+    for k in 0..21 {
+        writes(rt, k, above(k), -37, 109)?;
+        writes(rt, k, 4294967297, -37, 109)?;
     }
+    Ok(())
 }
 
 // Field 4 is the filter at 2400, 3 in the mixed fields and 10 at most. In the last line of 8 it is out of its range too.
-pub fn cases() {
-    text(b"\nINFO1c written\n");
-    writes(4, 3, -37, 109);
-    writes(4, 3, -512, 109);
-    writes(4, 3, 511, 109);
-    text(b"\n8: not 109 bytes\n");
-    writes(4, 3, -37, 0);
-    writes(4, 3, -37, 108);
-    writes(4, 3, -37, 110);
-    writes(4, 11, -37, 108);
-    text(b"\n18: a field out of its range\n");
-    writes(4, 3, -513, 109);
-    writes(4, 3, 512, 109);
-    writes(4, 3, -2147483648, 109);
-    writes(4, 3, 2147483647, 109);
-    all_above();
+pub fn cases(rt: &impl Print) -> io::Result<()> {
+    text(rt, b"\nINFO1c written\n")?;
+    writes(rt, 4, 3, -37, 109)?;
+    writes(rt, 4, 3, -512, 109)?;
+    writes(rt, 4, 3, 511, 109)?;
+    text(rt, b"\n8: not 109 bytes\n")?;
+    writes(rt, 4, 3, -37, 0)?;
+    writes(rt, 4, 3, -37, 108)?;
+    writes(rt, 4, 3, -37, 110)?;
+    writes(rt, 4, 11, -37, 108)?;
+    text(rt, b"\n18: a field out of its range\n")?;
+    writes(rt, 4, 3, -513, 109)?;
+    writes(rt, 4, 3, 512, 109)?;
+    writes(rt, 4, 3, -2147483648, 109)?;
+    writes(rt, 4, 3, 2147483647, 109)?;
+    all_above(rt)
 }

@@ -1,9 +1,10 @@
 // Labels that are damaged, one data frame for each legal setting with mark 1: how many get which number.
 use crate::tally::{say, text};
+use std::io;
 use trials::{bits_from, read_part, setting_of, write_part};
 
 // What is done to the labels.
-#[derive(Drop)]
+#[derive(Clone, Copy)]
 pub enum Damage {
     // The first label is far too large.
     TooLarge,
@@ -74,31 +75,30 @@ fn answer_to(kind: Damage, i: u64) -> u64 {
 // How many of the settings answer the number to a damage.
 fn answering(kind: Damage, number: u64) -> u64 {
     let mut count: u64 = 0;
-    let mut i = 0;
-    while i < 336 {
+    for i in 0..336 {
         if answer_to(kind, i) == number {
             count += 1;
         }
-        i += 1;
     }
     count
 }
 
-fn line_of(words: &[u8], kind: Damage, number: u64) {
-    say(words, number);
-    say(b": ", answering(kind, number));
-    text(b"\n");
+fn line_of(rt: &impl Print, words: &[u8], kind: Damage, number: u64) -> io::Result<()> {
+    say(rt, words, number)?;
+    say(rt, b": ", answering(kind, number))?;
+    text(rt, b"\n")
 }
 
-pub fn refusals() {
-    line_of(b"a label far too large gets ", Damage::TooLarge, 10);
-    line_of(b"the highest rings get ", Damage::HighestRings, 11);
-    line_of(b"the highest rings get ", Damage::HighestRings, 0);
-    line_of(b"a Z two steps on gets ", Damage::TwoSteps, 12);
-    line_of(b"a Z two steps on gets ", Damage::TwoSteps, 0);
+pub fn refusals(rt: &impl Print) -> io::Result<()> {
+    line_of(rt, b"a label far too large gets ", Damage::TooLarge, 10)?;
+    line_of(rt, b"the highest rings get ", Damage::HighestRings, 11)?;
+    line_of(rt, b"the highest rings get ", Damage::HighestRings, 0)?;
+    line_of(rt, b"a Z two steps on gets ", Damage::TwoSteps, 12)?;
+    line_of(rt, b"a Z two steps on gets ", Damage::TwoSteps, 0)?;
     line_of(
+        rt,
         b"a label far too large and the highest rings get ",
         Damage::Both,
         10,
-    );
+    )
 }

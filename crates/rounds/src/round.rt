@@ -50,7 +50,7 @@ fn same_answer(written: Coded, read: Coded, n: u64) -> bool {
 }
 
 // Whether a round agreed, and the state after it.
-#[derive(Drop)]
+#[derive(Clone, Copy)]
 pub struct Round {
     pub agrees: bool,
     pub state: State,

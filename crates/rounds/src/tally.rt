@@ -2,16 +2,16 @@
 ghost use Rattle.std.specs.Prelude.{◌≤◌};
 
 use crate::round::round_from;
-use libc::STDOUT_FILENO;
+use std::io;
 use trials::setting_of;
 
-pub fn say(words: &[u8], n: u64) {
-    io::write_all(STDOUT_FILENO, words);
-    io::print_decimal(STDOUT_FILENO, n);
+pub fn say(rt: &impl Print, words: &[u8], n: u64) -> io::Result<()> {
+    rt.write_all(words)?;
+    print!(rt; "{n}")
 }
 
-pub fn text(words: &[u8]) {
-    io::write_all(STDOUT_FILENO, words);
+pub fn text(rt: &impl Print, words: &[u8]) -> io::Result<()> {
+    rt.write_all(words)
 }
 
 fn one_if(agrees: bool) -> u64
@@ -39,18 +39,17 @@ fn chain(i: u64) -> u64
 
 fn agreeing() -> u64 {
     let mut count: u64 = 0;
-    let mut i = 0;
-    while i < 336 {
+    for i in 0..336 {
         count += chain(i);
-        i += 1;
     }
     count
 }
 
-pub fn rounds() {
+pub fn rounds(rt: &impl Print) -> io::Result<()> {
     say(
+        rt,
         b"data frames written and read back, three in a row, that agree: ",
         agreeing(),
-    );
-    text(b"\n");
+    )?;
+    text(rt, b"\n")
 }

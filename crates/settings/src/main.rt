@@ -3,16 +3,36 @@
 // What does it do? It reads a byte for each setting from standard input, role, s, n, shaping and mark, and prints N P b r K q M L in
 // decimal, or `refused` and the number. Any other number of bytes is `refused 8`.
 // How does it work? `main` only reads and writes; `answer::answer` turns the input into the line, and its contract gives every byte.
+#![tactic(auto)]
+
+ghost use Rattle.std.specs.Prelude.{IfOk, ◌≤◌, length};
+
 mod answer;
 mod text;
 
-use libc::{STDIN_FILENO, STDOUT_FILENO};
+use std::io;
+use std::io::Read;
+
+// Fills the front of `space` with the input, as far as there is input and room, and answers how many bytes that is.
+fn read_full(input: &mut impl Read, space: &mut [u8]) -> io::Result<usize>
+    ensures { IfOk result (λ read. read ≤ length space.new) }
+{
+    let mut done = 0;
+    while done < space.len() {
+        let read = input.read(&mut space[done..])?;
+        if read == 0 {
+            break;
+        }
+        done += read;
+    }
+    Ok(done)
+}
 
 // The buffer holds far more than these bytes, so that an input that is too long is seen to be.
-fn main() {
-    let mut input = io::buffer();
-    let read = io::read_full(STDIN_FILENO, &mut input);
+fn main(rt: HostRuntime) -> io::Result<()> {
+    let mut input = [0u8; 4096];
+    let read = read_full(&mut rt.stdin(), &mut input)?;
     let mut line = [0u8; 40];
     let count = answer::answer(&input[..read], &mut line);
-    io::write_all(STDOUT_FILENO, &line[..count]);
+    rt.write_all(&line[..count])
 }

@@ -4,6 +4,8 @@
 // compares numbers.
 // How does it work? Every function takes slices of any length. Nothing is promised here beyond what the types say: it is proved that the
 // functions end and stay within their slices. What prints stands in the programs: a library rests on no contract of a C function.
+#![tactic(auto)]
+
 pub mod check;
 pub mod same;
 pub mod spell;

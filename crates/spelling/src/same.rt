@@ -5,12 +5,10 @@ pub fn same(a: &[u64], b: &[u64]) -> bool {
     if a.len() != b.len() {
         return false;
     }
-    let mut i = 0;
-    while i < a.len() {
+    for i in 0..a.len() {
         if a[i] != b[i] {
             return false;
         }
-        i += 1;
     }
     true
 }

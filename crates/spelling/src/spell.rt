@@ -4,9 +4,7 @@
 // text that is lent costs the check of its function far more.
 pub fn spell(number: u64, bits: &mut [u8]) {
     let mut rest = number;
-    let mut i = bits.len();
-    while i > 0 {
-        i -= 1;
+    for i in (0..bits.len()).rev() {
         bits[i] = (rest % 2) as u8;
         rest = rest / 2;
     }

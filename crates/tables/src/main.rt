@@ -2,23 +2,24 @@
 // numbers, so a row that is missing, short or different fails the gate.
 //
 //     s n   b and the switching sequence SWP in hexadecimal, from Table 8; K, M minimum, M expanded, L minimum, L expanded, from Table 10
+#![tactic(auto)]
+
 mod row;
 
 use row::show;
+use std::io;
 
 // Every n that some symbol rate takes; `show` passes over what is refused.
-fn rows(s: u64) {
-    let mut n = 1;
-    while n < 15 {
-        show(s, n);
-        n += 1;
+fn rows(rt: &impl Print, s: u64) -> io::Result<()> {
+    for n in 1..15 {
+        show(rt, s, n)?;
     }
+    Ok(())
 }
 
-fn main() {
-    let mut s = 0;
-    while s < 6 {
-        rows(s);
-        s += 1;
+fn main(rt: HostRuntime) -> io::Result<()> {
+    for s in 0..6 {
+        rows(&rt, s)?;
     }
+    Ok(())
 }

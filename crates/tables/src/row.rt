@@ -2,6 +2,7 @@
 ghost use Rattle.std.specs.Prelude.{◌≤◌};
 
 use line::{Asked, Settings, Worked, next_frame, rings_of_shaping, work_out};
+use std::io;
 
 fn bit_of(high: bool) -> u64
     ensures { result ≤ 1 }
@@ -21,22 +22,20 @@ fn switching(c: Settings) -> u64 {
     }
     let mut sequence: u64 = 0;
     let mut counter: u64 = 0;
-    let mut k = 0;
-    while k < frames {
+    for _ in 0..frames {
         if counter >= frames {
             return 0;
         }
         let turn = next_frame(frames, step, counter);
         sequence = (2 * sequence + bit_of(turn.high)) % 65536;
         counter = turn.counter;
-        k += 1;
     }
     sequence
 }
 
-fn field(n: u64) {
-    io::print_decimal(1, n);
-    io::write_all(1, b" ");
+fn field(rt: &impl Print, n: u64) -> io::Result<()> {
+    print!(rt; "{n}")?;
+    rt.write_all(b" ")
 }
 
 // Our copy of V.34 lacks L for expanded shaping at two rates, 2800 baud with n 11 and 3200 baud with n 13.
@@ -63,31 +62,31 @@ fn worked(s: u64, n: u64, shaping: u64) -> Worked {
 }
 
 // The row of s and n, and nothing where the settings are refused.
-pub fn show(s: u64, n: u64) {
+pub fn show(rt: &impl Print, s: u64, n: u64) -> io::Result<()> {
     let least = worked(s, n, 0);
     let Worked::Accepted(c) = least else {
-        return;
+        return Ok(());
     };
     let most = worked(s, n, 1);
     let Worked::Accepted(d) = most else {
-        return;
+        return Ok(());
     };
-    field(s);
-    field(n);
-    field(c.high);
+    field(rt, s)?;
+    field(rt, n)?;
+    field(rt, c.high)?;
     let width = if c.frames < 13 { 3 } else { 4 };
-    io::print_hex(1, switching(c), width);
-    io::write_all(1, b" ");
-    field(c.shell);
+    print!(rt; "{:0width$x}", switching(c))?;
+    rt.write_all(b" ")?;
+    field(rt, c.shell)?;
     let minimum = c.shaping;
     let expanded = d.shaping;
-    field(rings_of_shaping(minimum));
-    field(rings_of_shaping(expanded));
-    field(c.points);
+    field(rt, rings_of_shaping(minimum))?;
+    field(rt, rings_of_shaping(expanded))?;
+    field(rt, c.points)?;
     if is_lacking(s, n) {
-        io::write_all(1, b"-");
+        rt.write_all(b"-")?;
     } else {
-        io::print_decimal(1, d.points);
+        print!(rt; "{}", d.points)?;
     }
-    io::write_all(1, b"\n");
+    rt.write_all(b"\n")
 }

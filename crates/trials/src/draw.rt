@@ -12,11 +12,9 @@ fn bit_of(held: u64) -> u8 {
 pub fn bits_from(seed: u64) -> [u8; 1248] {
     let mut bits = [0u8; 1248];
     let mut held = seed;
-    let mut i = 0;
-    while i < 1248 {
+    for i in 0..1248 {
         held = next(held);
         bits[i] = bit_of(held);
-        i += 1;
     }
     bits
 }

@@ -3,6 +3,8 @@
 // What does it do? `setting_of` gives the settings one after the other, each at another start, and `bits_from` bits to send. The other
 // functions call writer and reader with the front of a longer buffer, and compare fronts.
 // How does it work? Nothing is promised here beyond what the types say: it is proved that the functions end and stay within their buffers.
+#![tactic(auto)]
+
 pub mod draw;
 pub mod part;
 pub mod setting;

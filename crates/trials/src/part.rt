@@ -46,12 +46,10 @@ pub fn same_labels(a: &[u16], b: &[u16], m: usize) -> bool {
     if m > b.len() {
         return false;
     }
-    let mut i = 0;
-    while i < m {
+    for i in 0..m {
         if a[i] != b[i] {
             return false;
         }
-        i += 1;
     }
     true
 }

@@ -3,7 +3,7 @@ use coder::State;
 use line::{Asked, Worked};
 
 // A setting's start, N, 16·P, and its highest 2D label, M·2^q − 1; zeros where it is refused.
-#[derive(Drop)]
+#[derive(Clone, Copy)]
 pub struct Setting {
     pub state: State,
     pub bits: usize,
