@@ -19,10 +19,8 @@ pub fn put_bytes(line: &mut [u8], at: usize, bytes: &[u8]) -> usize
     ensures { Put bytes.now line.old line.new at result }
 {
     let mut next = at;
-    let mut i = 0;
-    while i < bytes.len() {
-        next = put_byte(line, next, bytes[i]);
-        i += 1;
+    for byte in bytes {
+        next = put_byte(line, next, *byte);
     }
     next
 }
@@ -54,10 +52,8 @@ fn put_all(line: &mut [u8], at: usize, numbers: &[u64]) -> usize
     ensures { Put (spaced numbers.now) line.old line.new at result }
 {
     let mut next = at;
-    let mut i = 0;
-    while i < numbers.len() {
-        next = put_spaced(line, next, numbers[i]);
-        i += 1;
+    for number in numbers {
+        next = put_spaced(line, next, *number);
     }
     next
 }
