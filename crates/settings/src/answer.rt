@@ -57,6 +57,7 @@ fn asked_in(input: &[u8]) -> Asked
 }
 
 // What is answered: a byte for each setting worked out, and refusal 8 for any other input.
+#[tactic(auto, unfolding(crate::specs::Lines::answer_of))]
 fn worked_of(input: &[u8]) -> Worked
     ensures { result ≡ answer_of input.now }
 {
