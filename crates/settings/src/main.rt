@@ -5,7 +5,8 @@
 // How does it work? `main` only reads and writes; `answer::answer` turns the input into the line, and its contract gives every byte.
 #![tactic(auto)]
 
-ghost use Rattle.std.specs.Prelude.{IfOk, ◌≤◌, length};
+ghost use Rattle.std.specs.Prelude.{IfOk, ◌≤◌, ◌<◌, length, take};
+ghost use Rattle.std.specs.Io.KnownBytes.{Consumes, IsAtEnd};
 
 mod answer;
 mod text;
@@ -14,8 +15,10 @@ use std::io;
 use std::io::Read;
 
 // Fills the front of `space` with the input, as far as there is input and room, and answers how many bytes that is.
-fn read_full(input: &mut impl Read, space: &mut [u8]) -> io::Result<usize>
-    ensures { IfOk result (λ read. read ≤ length space.new) }
+fn read_full<R: Read>(input: &mut R, space: &mut [u8]) -> io::Result<usize>
+    ensures within { IfOk result (λ read. read ≤ length space.new) }
+    ensures bytes { IfOk result (λ read. Consumes (R.remaining input.old) (R.remaining input.new) (take read space.new)) }
+    ensures ended { IfOk result (λ read. read < length space.new → IsAtEnd (R.remaining input.new)) }
 {
     let mut done = 0;
     while done < space.len() {
