@@ -1,5 +1,6 @@
 -- The test of bytes: it passes lists of bits and no others, and it goes byte by byte. Assumes nothing.
-use mathlib.Core.Bool.{true, false, ◌&&◌}
+use mathlib.Core.Bool.{Bool, true, false, ◌&&◌, and-false}
+use mathlib.Core.Logic.{⊎_elim}
 use mathlib.Core.List.{List, [], ◌∷◌}
 use mathlib.Core.Path.{◌≡◌, refl, sym, ap, ◌∙◌}
 use Prim.Native.Nat.{ℕ, ◌+◌, ◌≤◌, ◌<◌}
@@ -7,6 +8,7 @@ use native.Mathlib.Numerals.{add-one}
 use lib.Dec.{leb}
 use lib.ListN.{length, get_or, drop, drop_of_length-le}
 use lib.Seq.{drop-cons}
+use Rattle.std.proofs.lemmas.Bool.{cases_lt}
 use borrow.Author.Tests.{leb-true, le-leb, lt-leb}
 use Rattle.laws.proofs.Bools.{and_parts, and_both}
 use Rattle.bits.specs.Digits.{Bits, all_bits}
@@ -37,3 +39,16 @@ module _ (bytes : List ℕ) (i : ℕ) where
   pub no_byte : length bytes ≤ i → all_bits (drop i bytes) ≡ true
   unfolding all_bits
   no_byte h = ap all_bits (drop_of_length-le bytes h)
+
+-- a turn of the test: a byte above 1 lowers the flag, and another leaves it
+pub next-byte :
+    (bytes : List ℕ) (i : ℕ) (good after : Bool)
+    → i < length bytes
+    → (1 < get_or bytes i 0 → after ≡ false)
+    → (get_or bytes i 0 ≤ 1 → after ≡ good)
+    → (after && all_bits (drop (i + 1) bytes)) ≡ (good && all_bits (drop i bytes))
+next-byte bytes i good after here high low =
+    ⊎_elim
+    (λ large. rw (high large, bad-byte bytes i here large, and-false good))
+    (λ small. rw (low small, good-byte bytes i here small))
+    (cases_lt 1 (get_or bytes i 0))
