@@ -2,6 +2,7 @@
 use mathlib.Core.Bool.{Bool, true, false}
 use mathlib.Core.Path.{◌≡◌, sym, ◌∙◌}
 use Prim.Native.Nat.{ℕ}
+use native.Mathlib.Omega.{arith}
 use borrow.Author.Rules.{rules}
 use Rattle.laws.specs.Choice.{refusal}
 use Rattle.line.specs.declared.asked.Asked.{Asked}
@@ -104,7 +105,7 @@ abbrev last : tie.After-struct_known-7-1 → tie.Else-asked-rate-2
 last c = let k = c.before in k.before.before.before
 
 slow : (c : tie.Then-asked-lt13) → Left (last c.before) 6
-slow c = stated c.before.before ∙ past_slow _ c.if-asked-lt13.true
+slow c = stated c.before.before ∙ past_slow _ (omega arith)
 
 returns-then-asked-lt13 : tie.Need-returns-then-asked-lt13
 unfolding after refusal
@@ -116,12 +117,12 @@ fast c = stated c.before.before
 returns-then-denied : tie.Need-returns-then-denied
 returns-then-denied c =
     let k = c.before in
-    sym (fast k ∙ six _ k.if-asked-lt13.false (denied_is (start (last k.before)) true c.if-denied.true))
+    sym (fast k ∙ six _ (omega arith) (denied_is (start (last k.before)) true c.if-denied.true))
 
 granted : (c : tie.Else-denied) → Left (last c.before.before) 6
 granted c =
     let k = c.before in
-    fast k ∙ past-denied _ k.if-asked-lt13.false (denied_is (start (last k.before)) false c.if-denied.false)
+    fast k ∙ past-denied _ (omega arith) (denied_is (start (last k.before)) false c.if-denied.false)
 
 returns : tie.Need-returns
 unfolding after refusal
