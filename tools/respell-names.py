@@ -9,21 +9,25 @@ length-drop, and a plain word is added with _, as in no_byte. So a dash stays wh
 function of src/, or a part of a name of the library that has a dash there. Elsewhere it becomes _.
 
 A lemma's name stays as it is where its new spelling is taken in a file that has it. It prints what it left, and the table old -> new goes to
-tools/respelled-names.tsv, by which it also turns the code spans of the pages. It leaves must-fail edits alone (tools/port-edits.py). A second run changes nothing.
+tools/respelled-names.tsv, by which it also turns the code spans of the pages. It leaves must-fail edits alone.
+
+Do not run it again without --table: what it made are names by then, so that it would take some dashes for right that were not.
 """
 
 import glob
 import os
 import re
+import subprocess
 import sys
 
-LIBRARY = "/opt/rattle/rattle"
 WORD = re.compile(r'[^\s(){}.;,@"«»]+')
 DECLARED = re.compile(
     r"(?m)^ *((?:(?:abbrev|unfoldable|pub|record|data|module) )*)([^\s(){}.;,@\"«»:]+)(?: [({][^\n]*?[)}])*(?: :(?=\s|$)| where$)"
 )
 LET = re.compile(r"\blet ([^\s(){}.;,@\"«»:=]+)(?= [:=])")
 FUNCTION = re.compile(r"\bfn (\w+)")
+# Words that the library joins by a dash too, but that are no names in ours.
+STOP = {"of", "by", "at", "is", "in", "to", "no", "up", "was", "as", "on", "and", "one", "two", "none", "same", "last", "first", "again", "exactly"}
 KEPT = {"use", "mod", "where", "let", "pub", "in", "_"}
 
 
@@ -37,13 +41,11 @@ def snake(name):
     return re.sub(r"(?<=[a-z0-9])([A-Z])(?![A-Z])", lambda m: "_" + m[1].lower(), name)
 
 
-STOP = {"of", "by", "at", "is", "in", "to", "no", "up", "was", "as", "on", "and", "one", "two", "none", "same", "last", "first", "again", "exactly"}
-
-
 def library_parts():
     """The words that the library itself joins by a dash and declares by themselves."""
     parts, words = set(), set()
-    for path in glob.glob(f"{LIBRARY}/**/*.antt", recursive=True):
+    kit = os.path.dirname(subprocess.run(["rt", "doc"], check=True, capture_output=True, text=True).stdout.strip())
+    for path in glob.glob(f"{kit}/rattle/**/*.antt", recursive=True):
         for line in read(path).splitlines():
             found = re.match(r" *(?:pub |abbrev |unfoldable )*([^\s(){}.;,@\"«»:]+)(?: [({].*)? :(?:\s|$)", line)
             if found and "-" in found[1]:
