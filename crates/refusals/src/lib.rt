@@ -1,0 +1,68 @@
+// Workerwax, crate `refusals`: the refusals of every entry, by name, and the numbers that C is told for them.
+//
+// What does it do? An entry answers `Ok`, or an `Err` that holds one of these names. `code` makes of it what C gets: 0, or the number of
+// the refusal.
+// How does it work? The numbers are those of "What comes back" in the scope paper, and stand here and in specs/ alone.
+#![tactic(auto)]
+
+ghost use Rattle.std.specs.Prelude.{◌≡◌};
+ghost use Rattle.refusals.specs.Numbers.{number, code};
+
+// Why a call is refused. Names stand in the order of their numbers.
+#[derive(Clone, Copy, Debug, PartialEq, Eq)]
+pub enum Refusal {
+    UnknownRole,
+    UnknownRate,
+    DataRateOutOfRange,
+    UnknownShaping,
+    UnstatedMark,
+    DeniedDataRate,
+    UnfitState,
+    WrongLength,
+    NotABit,
+    OutOfRange,
+    UnsentRings,
+    UnsentStep,
+    NotPermitted,
+    NumberTooLarge,
+    WrongPicture,
+    WrongCheck,
+    FieldOutOfRange,
+}
+
+impl Refusal {
+    // The number of a refusal.
+    pub fn number(self) -> u32
+        ensures { result ≡ number self }
+    {
+        match self {
+            Refusal::UnknownRole => 1,
+            Refusal::UnknownRate => 2,
+            Refusal::DataRateOutOfRange => 3,
+            Refusal::UnknownShaping => 4,
+            Refusal::UnstatedMark => 5,
+            Refusal::DeniedDataRate => 6,
+            Refusal::UnfitState => 7,
+            Refusal::WrongLength => 8,
+            Refusal::NotABit => 9,
+            Refusal::OutOfRange => 10,
+            Refusal::UnsentRings => 11,
+            Refusal::UnsentStep => 12,
+            Refusal::NotPermitted => 13,
+            Refusal::NumberTooLarge => 14,
+            Refusal::WrongPicture => 16,
+            Refusal::WrongCheck => 17,
+            Refusal::FieldOutOfRange => 18,
+        }
+    }
+}
+
+// What C is told of an outcome: 0 where it is done, and otherwise the number of the refusal.
+pub fn code<T: Copy>(outcome: Result<T, Refusal>) -> u32
+    ensures { result ≡ code outcome }
+{
+    match outcome {
+        Ok(_) => 0,
+        Err(refusal) => refusal.number(),
+    }
+}
