@@ -8,22 +8,21 @@ use native.Mathlib.Omega.{arith}
 use lib.Dec.{eqb}
 use lib.IntN.{ℤ, pos, negsuc}
 use lib.Signed.{mag}
-use lib.Ieee.{binary64, div, of_int, is_nan}
+use lib.Ieee.{Float, binary64, div, of_int, is_nan}
 use borrow.Author.Tests.{ne_eqb, eqb-true, eqb-false}
+use Rattle.std.specs.Prelude.{Option, Some, None}
 use Rattle.laws.proofs.Floats.{never-nan, quotient_fits}
 use Rattle.offset.specs.Hertz.{hertz_of, reading_of, is_reading, pattern_of}
 use Rattle.offset.specs.Requires.{NoNan}
-use Rattle.offset.specs.declared.reading.Reading.{Reading}
-use Rattle.offset.specs.declared.reading.Reading.TheVariants.{Hertz, Blank}
 
 -- ---- −512 alone has no reading
 
-pub hertz_unless : (z : ℤ) → (z ≡ negsuc 511 → ⊥) → reading_of z ≡ Hertz (hertz_of z)
+pub hertz_unless : (z : ℤ) → (z ≡ negsuc 511 → ⊥) → reading_of z ≡ Some (hertz_of z)
 hertz_unless (pos n) other = refl
 hertz_unless (negsuc n) other = simp (ne_eqb n 511 (λ e. other (ap negsuc e)))
 
 pub reading_exactly :
-    (z : ℤ) → (z ≡ negsuc 511 → ⊥) → reading_of z ≡ Hertz (div binary64 (of_int binary64 z) (of_int binary64 (pos 50)))
+    (z : ℤ) → (z ≡ negsuc 511 → ⊥) → reading_of z ≡ Some (div binary64 (of_int binary64 z) (of_int binary64 (pos 50)))
 unfolding hertz_of
 reading_exactly z other = hertz_unless z other
 
@@ -37,16 +36,16 @@ blank-only (negsuc n) read = by (eqb n 511) refl
         let hertz = hertz_unless (negsuc n) (λ same. eqb-false n 511 e (ap mag same)) in
         absurd (omega (arith, ap is_reading hertz))
 
-pub blank_exactly : (z : ℤ) → (reading_of z ≡ Blank) ↔ (z ≡ negsuc 511)
+pub blank_exactly : (z : ℤ) → (reading_of z ≡ None) ↔ (z ≡ negsuc 511)
 blank_exactly z = (λ e. blank-only z (ap is_reading e), λ e. ap reading_of e)
 
 -- the same as a number, which is 0 or 1
 pub is_reading_exactly : (z : ℤ) → (is_reading (reading_of z) ≡ 0) ↔ (z ≡ negsuc 511)
 is_reading_exactly z = (blank-only z, λ e. ap is_reading ((blank_exactly z).1 e))
 
-pub is_reading-bit : (r : Reading) → is_reading r ≤ 1
-is_reading-bit (Hertz hertz) = omega arith
-is_reading-bit Blank = omega arith
+pub is_reading-bit : (r : Option Float) → is_reading r ≤ 1
+is_reading-bit (Some hertz) = omega arith
+is_reading-bit None = omega arith
 
 -- ---- the quotient is a number
 
@@ -55,11 +54,11 @@ unfolding hertz_of
 hertz_number z = never-nan 50 (omega arith) (omega arith) z
 
 -- what holds of a blank and of the quotient holds of the reading
-whichever : (P : Reading → Type 0) (z : ℤ) → P Blank → P (Hertz (hertz_of z)) → P (reading_of z)
+whichever : (P : Option Float → Type 0) (z : ℤ) → P None → P (Some (hertz_of z)) → P (reading_of z)
 whichever P (pos n) blank hertz = hertz
 whichever P (negsuc n) blank hertz = by (eqb n 511)
   where
-    by : (v : Bool) → P (cond v Blank (Hertz (hertz_of (negsuc n))))
+    by : (v : Bool) → P (cond v None (Some (hertz_of (negsuc n))))
     by true = blank
     by false = hertz
 

@@ -2,9 +2,9 @@
 use mathlib.Core.Path.{◌≡◌, refl}
 use lib.IntN.{pos, negsuc}
 use lib.Ieee.{div, of_int, to_bits, round, size, span, climb, units, odd}
+use Rattle.std.specs.Prelude.{None}
 use Rattle.offset.specs.Hertz.{hertz_of, reading_of, pattern_of}
 use Rattle.offset.specs.Signed.{signed}
-use Rattle.offset.specs.declared.reading.Reading.TheVariants.{Blank}
 
 -- ---- ten bits
 
@@ -55,5 +55,5 @@ pub hertz_of-minus_511 : pattern_of (reading_of (negsuc 510)) ≡ 13845315003433
 unfolding hertz_of to_bits div of_int round size span climb units odd
 hertz_of-minus_511 = refl
 
-pub none_of_minus_512 : reading_of (negsuc 511) ≡ Blank
+pub none_of_minus_512 : reading_of (negsuc 511) ≡ None
 none_of_minus_512 = refl

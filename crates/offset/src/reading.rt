@@ -1,43 +1,33 @@
-// What a count of steps of 0.02 Hz says in hertz.
+// What a count of steps of 0.02 Hz says in hertz, or that there is no reading. No reading is not 0 Hz.
 ghost use Rattle.std.specs.Prelude.{◌≡◌};
 ghost use Rattle.offset.specs.Hertz.{reading_of, is_reading, pattern_of};
 ghost use Rattle.offset.specs.Requires.{NoNan};
 
-// Hertz, or that there is no reading. A blank is not 0 Hz.
-#[derive(Clone, Copy)]
-pub enum Reading {
-    Hertz(f64),
-    Blank,
-}
-
 // The count −512 says that the offset could not be measured. Every other one is divided once by 50.
-pub fn reading_of(count: i32) -> Reading
+pub fn reading_of(count: i32) -> Option<f64>
     ensures { result ≡ reading_of count }
 {
     if count == -512 {
-        return Reading::Blank;
+        return None;
     }
     let steps = count as f64;
-    Reading::Hertz(steps / 50.0)
+    Some(steps / 50.0)
 }
 
-// 1 for hertz, 0 for a blank.
-pub fn is_reading(reading: Reading) -> u64
+// 1 for hertz, 0 for none.
+pub fn is_reading(reading: Option<f64>) -> u64
     ensures { result ≡ is_reading reading }
 {
-    match reading {
-        Reading::Hertz(_) => 1,
-        Reading::Blank => 0,
-    }
+    u64::from(reading.is_some())
 }
 
-// The bit pattern of the hertz, and 0 for a blank.
-pub fn pattern_of(reading: Reading) -> u64
+// The bit pattern of the hertz, and 0 for none.
+pub fn pattern_of(reading: Option<f64>) -> u64
     requires { NoNan reading }
     ensures { result ≡ pattern_of reading }
 {
     match reading {
-        Reading::Hertz(hertz) => f64::to_bits(hertz),
-        Reading::Blank => 0,
+        Some(hertz) => f64::to_bits(hertz),
+        None => 0,
     }
 }
