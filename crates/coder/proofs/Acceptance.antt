@@ -13,8 +13,7 @@ use Rattle.bits.specs.Digits.{Bits}
 use Rattle.laws.proofs.Bools.{and_parts, and_both, not-not}
 use Rattle.laws.proofs.Choices.{no_tests, passed_over, none_first, none_rest}
 use Rattle.line.specs.declared.settings.Settings.{Settings}
-use Rattle.line.specs.declared.settings.Worked.{Worked}
-use Rattle.line.specs.declared.settings.Worked.TheVariants.{Accepted, Refused}
+use Rattle.line.specs.Worked.{Worked, Accepted, Refused}
 use Rattle.line.proofs.Acceptance.{refused-some}
 use Rattle.line.proofs.Soundness.{Sound, accepted-sound}
 use Rattle.coder.specs.declared.states.State.{State}

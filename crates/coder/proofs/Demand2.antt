@@ -15,7 +15,7 @@ use Rattle.bits.specs.Digits.{Bits}
 use Rattle.laws.specs.Emit.{emit}
 use Rattle.bits.proofs.Digitals.{bits-append}
 use Rattle.line.specs.declared.settings.Settings.{Settings}
-use Rattle.line.specs.declared.settings.Worked.TheVariants.{Accepted}
+use Rattle.line.specs.Worked.{Accepted}
 use Rattle.frame.specs.Shape.{length_of}
 use Rattle.frame.specs.Writing.{frame_labels}
 use Rattle.scrambler.specs.Scrambler.{scramble}

@@ -8,7 +8,7 @@ use lib.ListN.{length}
 use Rattle.laws.specs.Choice.{refusal}
 use Rattle.bits.specs.Digits.{all_bits}
 use Rattle.line.specs.declared.settings.Settings.{Settings}
-use Rattle.line.specs.declared.settings.Worked.TheVariants.{Accepted}
+use Rattle.line.specs.Worked.{Accepted}
 use Rattle.coder.specs.declared.states.State.{State}
 use Rattle.coder.specs.State.{unfit}
 use Rattle.coder.specs.Answers.{exact, write_refusal, read_refusal}

@@ -14,8 +14,7 @@ use Rattle.bits.specs.Digits.{Bits}
 use Rattle.laws.proofs.Choices.{no_tests, passed_over, none_first}
 use Rattle.line.specs.Asked.{asked}
 use Rattle.line.specs.declared.settings.Settings.{Settings}
-use Rattle.line.specs.declared.settings.Worked.{Worked}
-use Rattle.line.specs.declared.settings.Worked.TheVariants.{Accepted, Refused}
+use Rattle.line.specs.Worked.{Worked, Accepted, Refused}
 use Rattle.line.proofs.Acceptance.{Right, accepted-when, refused-some}
 use Rattle.coder.specs.declared.states.State.{State}
 use Rattle.coder.specs.declared.states.Started.{Started}

@@ -11,8 +11,7 @@ use Rattle.std.specs.Prelude.{Bool, true, not, ◌&&◌, cond, List, [], ◌∷�
 use Rattle.laws.specs.Choice.{refusal}
 use Rattle.bits.specs.Digits.{Bits, all_bits}
 use Rattle.line.specs.declared.settings.Settings.{Settings}
-use Rattle.line.specs.declared.settings.Worked.{Worked}
-use Rattle.line.specs.declared.settings.Worked.TheVariants.{Accepted, Refused}
+use Rattle.line.specs.Worked.{Worked, Accepted, Refused}
 use Rattle.coder.specs.declared.states.State.{State}
 use Rattle.coder.specs.declared.states.Coded.{Coded}
 use Rattle.coder.specs.State.{state_of, worked_in, unfit}

@@ -9,8 +9,7 @@ use Rattle.std.specs.Prelude.{Bool, cond, ◌||◌, [], ◌∷◌, ℕ, ◌^◌,
 use Rattle.line.specs.Asked.{asked}
 use Rattle.line.specs.Settings.{worked_of}
 use Rattle.line.specs.declared.asked.Asked.{Asked}
-use Rattle.line.specs.declared.settings.Worked.{Worked}
-use Rattle.line.specs.declared.settings.Worked.TheVariants.{Accepted, Refused}
+use Rattle.line.specs.Worked.{Worked, Accepted, Refused}
 use Rattle.laws.specs.Choice.{refusal}
 use Rattle.coder.specs.declared.states.State.{State}
 use Rattle.coder.specs.declared.states.Started.{Started}

@@ -10,7 +10,7 @@ use lib.Pow.{pow_mono}
 use borrow.Author.Tests.{leb-true, leb-false}
 use Rattle.line.specs.declared.asked.Asked.{Asked}
 use Rattle.line.specs.declared.settings.Settings.{Settings}
-use Rattle.line.specs.declared.settings.Worked.TheVariants as worked
+use Rattle.line.specs.Worked as worked
 use Rattle.line.specs.Settings.{rings_of_shaping, worked_of}
 use Rattle.line.proofs.Soundness.{Sound, accepted-sound}
 use Rattle.frame.specs.declared.shape.Shape.{Shape}

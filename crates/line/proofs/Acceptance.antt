@@ -13,11 +13,9 @@ use Rattle.laws.specs.Lists.{count, product, up_to}
 use Rattle.laws.proofs.Choices.{none_first, none_rest, within, refusal-most}
 use Rattle.line.specs.declared.asked.Asked.{Asked}
 use Rattle.line.specs.declared.rate.SymbolRate.{SymbolRate}
-use Rattle.line.specs.declared.rate.Rate.{Rate}
-use Rattle.line.specs.declared.rate.Rate.TheVariants.{Known, Unknown}
+use Rattle.std.specs.Prelude.{Option, Some, None}
 use Rattle.line.specs.declared.settings.Settings.{Settings}
-use Rattle.line.specs.declared.settings.Worked.{Worked}
-use Rattle.line.specs.declared.settings.Worked.TheVariants.{Accepted, Refused}
+use Rattle.line.specs.Worked.{Worked, Accepted, Refused}
 use Rattle.line.specs.Asked.{asked}
 use Rattle.line.specs.Rates.{symbol_rate, row_of}
 use Rattle.line.specs.Settings.{outside, refusals, settings_refusal, settings_of, accepted_of, worked_of, number_of}
@@ -27,9 +25,9 @@ pub one_outcome : (asked : Asked) (v w : Worked) → v ≡ worked_of asked → w
 one_outcome asked v w p q = p ∙ sym q
 
 -- n in the range of a symbol rate
-abbrev pub Within : Rate → ℕ → Type 0
-Within (Known rate) n = (rate.least ≤ n) × (n ≤ rate.most)
-Within Unknown n = ⊥
+abbrev pub Within : Option SymbolRate → ℕ → Type 0
+Within (Some rate) n = (rate.least ≤ n) × (n ≤ rate.most)
+Within None n = ⊥
 
 -- what is asked is right
 pub record Right (asked : Asked) : Type 0 where
@@ -41,17 +39,17 @@ pub record Right (asked : Asked) : Type 0 where
   pub allowed : (asked.n ≤ 12) ⊎ (asked.mark ≡ 1)
 
 -- the test of the range
-within-outside : (rate : Rate) (n : ℕ) → Within rate n → outside rate n ≡ false
-within-outside (Known rate) n w = rw (le-ltb _ _ w.0, le-ltb _ _ w.1)
-within-outside Unknown n w = absurd w
+within-outside : (rate : Option SymbolRate) (n : ℕ) → Within rate n → outside rate n ≡ false
+within-outside (Some rate) n w = rw (le-ltb _ _ w.0, le-ltb _ _ w.1)
+within-outside None n w = absurd w
 
-outside-within : (rate : Rate) (n : ℕ) → outside rate n ≡ false → Within rate n
-outside-within (Known rate) n e = go (ltb n rate.least) refl e
+outside-within : (rate : Option SymbolRate) (n : ℕ) → outside rate n ≡ false → Within rate n
+outside-within (Some rate) n e = go (ltb n rate.least) refl e
   where
     go : (v : Bool) → ltb n rate.least ≡ v → (v || ltb rate.most n) ≡ false → (rate.least ≤ n) × (n ≤ rate.most)
     go true p q = absurd (let z : ◌≡◌ {A = ℕ} 0 1 = cc in omega arith)
     go false p q = (ltb-false n rate.least p, ltb-false rate.most n q)
-outside-within Unknown n e = let z : ◌≡◌ {A = ℕ} 0 1 = cc in omega arith
+outside-within None n e = let z : ◌≡◌ {A = ℕ} 0 1 = cc in omega arith
 
 -- the test of a rate above 28,800 with mark 0
 allowed-passes : (n mark : ℕ) → (n ≤ 12) ⊎ (mark ≡ 1) → (leb 13 n && eqb mark 0) ≡ false
@@ -69,7 +67,7 @@ passes-allowed n mark h e = go (leb 13 n) refl e
     go false p q = inl (omega (arith, leb-false 13 n p))
 
 pub known-accepted :
-    (asked : Asked) (rate : SymbolRate) → symbol_rate asked.s ≡ Known rate
+    (asked : Asked) (rate : SymbolRate) → symbol_rate asked.s ≡ Some rate
     → accepted_of asked (symbol_rate asked.s) ≡ Accepted (settings_of asked rate)
 unfolding accepted_of
 known-accepted asked rate e = rw e
@@ -113,9 +111,9 @@ module _ (asked : Asked) where
   right-accepted : Right asked → (c : Settings) × (worked_of asked ≡ Accepted c)
   right-accepted r = go (symbol_rate asked.s) refl r.range
     where
-      go : (rate : Rate) → symbol_rate asked.s ≡ rate → Within rate asked.n → (c : Settings) × (worked_of asked ≡ Accepted c)
-      go (Known rate) e w = (settings_of asked rate, unrefused_is (right_unrefused r) ∙ known-accepted asked rate e)
-      go Unknown e w = absurd w
+      go : (rate : Option SymbolRate) → symbol_rate asked.s ≡ rate → Within rate asked.n → (c : Settings) × (worked_of asked ≡ Accepted c)
+      go (Some rate) e w = (settings_of asked rate, unrefused_is (right_unrefused r) ∙ known-accepted asked rate e)
+      go None e w = absurd w
 
   accepted_unrefused : (c : Settings) → worked_of asked ≡ Accepted c → settings_refusal asked ≡ 0
   accepted_unrefused c e = go (settings_refusal asked) refl

@@ -1,11 +1,13 @@
 -- The numbers of document 01 as the code computes them, by divisions: b is N over P rounded up, q is what b has above 36, in
 -- eights, and K is what is left. With them the two bounds of b. Assumes nothing.
 use mathlib.Core.Bool.{Bool, true, false, cond}
-use mathlib.Core.Path.{◌≡◌, refl, ap}
-use Prim.Native.Nat.{ℕ, zero, suc, ◌+◌, ◌*◌, ◌-◌, ◌/◌, ◌≤◌, ◌<◌}
+use mathlib.Core.Path.{◌≡◌, refl, sym, ap, ◌∙◌}
+use Prim.Native.Nat.{ℕ, zero, suc, ◌+◌, ◌*◌, ◌-◌, ◌/◌, ◌%◌, ◌≤◌, ◌<◌}
 use native.Mathlib.Nat.{div-eq_of_lt-le, mul-le-mul_left, mul-one, suc-mul, add-mul, one-mul, zero-mul}
 use native.Mathlib.Omega.{arith}
 use lib.Dec.{leb, ltb, eqb}
+use Rattle.std.specs.Prelude.{min}
+use Rattle.std.proofs.lemmas.Grind.{div_ceil_times}
 use borrow.Author.Tests.{leb-true, leb-false, le-leb, lt-ltb, le-ltb}
 use Rattle.laws.specs.Smallest.{smallest}
 use Rattle.laws.proofs.Smallests.{smallest-passes, below-smallest, smallest_is}
@@ -43,6 +45,16 @@ high_is N P h = div-eq_of_lt-le P (fits (high_of N P) (below-high N P)) above
 
     above : N + P - 1 < (high_of N P + 1) * P
     above = omega (arith, high-holds N P h, add-mul (high_of N P) 1 P, one-mul P)
+
+-- as the code divides
+pub high_ceiled : (N P : ℕ) → 0 < P → N / P + min 1 (N % P) ≡ high_of N P
+high_ceiled N P h = sym (div-eq_of_lt-le P (omega (arith, bounds.1, bounds.0)) above) ∙ high_is N P h
+  where
+    bounds : (N ≤ (N / P + min 1 (N % P)) * P) × ((N / P + min 1 (N % P)) * P < N + P)
+    bounds = div_ceil_times N P h
+
+    above : N + P - 1 < (N / P + min 1 (N % P) + 1) * P
+    above = omega (arith, bounds.0, add-mul (N / P + min 1 (N % P)) 1 P, one-mul P)
 
 pub uncoded_is : (b : ℕ) → uncoded_of b ≡ (b - 36) / 8
 unfolding uncoded_of

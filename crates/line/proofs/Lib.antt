@@ -15,3 +15,4 @@ pub mod DataFrames
 pub mod Acceptance
 pub mod Soundness
 pub mod WorkedCases
+pub mod Outcomes

@@ -8,7 +8,7 @@ use borrow.Author.Tests.{le-leb, lt-leb, lt-ltb, le-ltb}
 use Rattle.laws.specs.Choice.{refusal}
 use Rattle.line.specs.declared.asked.Asked.{Asked}
 use Rattle.line.specs.declared.rate.SymbolRate.{SymbolRate}
-use Rattle.line.specs.declared.rate.Rate.TheVariants.{Known, Unknown}
+use Rattle.std.specs.Prelude.{Some, None}
 use Rattle.line.specs.Rates.{symbol_rate}
 use Rattle.line.specs.Settings.{unstated, denied, refusals, settings_refusal}
 use Rattle.line.proofs.Rows.{known-below, above-unknown}
@@ -23,11 +23,11 @@ module _ (asked : Asked) where
   one h = rw (lt-ltb 1 asked.role h)
 
   module _ (end : asked.role ≤ 1) where
-    pub two : symbol_rate asked.s ≡ Unknown → settings_refusal asked ≡ 2
+    pub two : symbol_rate asked.s ≡ None → settings_refusal asked ≡ 2
     unfolding settings_refusal after refusal
     two e = rw (le-ltb 1 asked.role end, lt-ltb 5 asked.s (above-unknown asked.s e))
 
-    module _ (rate : SymbolRate) (named : symbol_rate asked.s ≡ Known rate) where
+    module _ (rate : SymbolRate) (named : symbol_rate asked.s ≡ Some rate) where
       past_symbols : settings_refusal asked ≡ after 2
       unfolding settings_refusal after refusal
       past_symbols = rw (le-ltb 1 asked.role end, le-ltb 5 asked.s within)

@@ -11,10 +11,9 @@ use Rattle.laws.specs.Smallest.{smallest}
 use Rattle.laws.proofs.Tables.{passes_below, at_each}
 use Rattle.line.specs.declared.asked.Asked.{Asked}
 use Rattle.line.specs.declared.rate.SymbolRate.{SymbolRate}
-use Rattle.line.specs.declared.rate.Rate.{Rate}
-use Rattle.line.specs.declared.rate.Rate.TheVariants.{Known, Unknown}
+use Rattle.std.specs.Prelude.{Option, Some, None}
 use Rattle.line.specs.declared.settings.Settings.{Settings}
-use Rattle.line.specs.declared.settings.Worked.TheVariants.{Accepted}
+use Rattle.line.specs.Worked.{Accepted}
 use Rattle.line.specs.Rates.{symbol_rate, row_of}
 use Rattle.line.specs.Numbers.{bits_of, high_of, step_of, uncoded_of, shell_of, minimum_of, nearest_of, expanded_of, points_of}
 use Rattle.line.specs.Settings.{outside, shaping_of, rings_of_shaping, settings_of, worked_of, values_of}
@@ -64,7 +63,7 @@ at_each_pair test = passes_below (λ s. passes_below (at_pair test s) 15) 6
 -- holds of every rate that s names and n in its range
 each-pair :
     (test : SymbolRate → ℕ → Bool) → at_each_pair test ≡ true
-    → (s n : ℕ) (rate : SymbolRate) → symbol_rate s ≡ Known rate → rate.least ≤ n → n ≤ rate.most → n ≤ 14 → test rate n ≡ true
+    → (s n : ℕ) (rate : SymbolRate) → symbol_rate s ≡ Some rate → rate.least ≤ n → n ≤ rate.most → n ≤ 14 → test rate n ≡ true
 each-pair test passes s n rate e from to few =
     sym chosen
     ∙ at_each (at_pair test s) 15 (at_each (λ s. passes_below (at_pair test s) 15) 6 passes s (known-below s rate e)) n (omega arith)
@@ -95,7 +94,7 @@ record Tabled (rate : SymbolRate) (n : ℕ) : Type 0 where
   expanded_labels : labels_of 1 rate n ≤ 416
 
 tabled :
-    (s n : ℕ) (rate : SymbolRate) → symbol_rate s ≡ Known rate → rate.least ≤ n → n ≤ rate.most → Tabled rate n
+    (s n : ℕ) (rate : SymbolRate) → symbol_rate s ≡ Some rate → rate.least ≤ n → n ≤ rate.most → Tabled rate n
 unfolding passes_below symbol_rate row_of bits high step labels_of smallest
     bits_of high_of step_of uncoded_of shell_of shaping_of minimum_of nearest_of expanded_of
 tabled s n rate e from to =
@@ -123,7 +122,7 @@ either (suc (suc k)) P h a b = absurd (omega arith)
 -- the settings of a rate that s names and n in its range
 settings-sound :
     (asked : Asked) (rate : SymbolRate) → asked.role ≤ 1 → asked.shaping ≤ 1
-    → symbol_rate asked.s ≡ Known rate → rate.least ≤ asked.n → asked.n ≤ rate.most → Sound (settings_of asked rate)
+    → symbol_rate asked.s ≡ Some rate → rate.least ≤ asked.n → asked.n ≤ rate.most → Sound (settings_of asked rate)
 unfolding settings_of bits high step labels_of points_of
 settings-sound asked rate end kind e from to =
     let n = asked.n in
@@ -162,9 +161,9 @@ settings-sound asked rate end kind e from to =
 pub rate-most : (asked : Asked) → Right asked → asked.n ≤ 14
 rate-most asked right = go (symbol_rate asked.s) refl right.range
   where
-    go : (rate : Rate) → symbol_rate asked.s ≡ rate → Within rate asked.n → asked.n ≤ 14
-    go (Known rate) e w = (in-range asked.s rate asked.n e w.0 w.1).most
-    go Unknown e w = absurd w
+    go : (rate : Option SymbolRate) → symbol_rate asked.s ≡ rate → Within rate asked.n → asked.n ≤ 14
+    go (Some rate) e w = (in-range asked.s rate asked.n e w.0 w.1).most
+    go None e w = absurd w
 
 -- all accepted settings are sound
 pub accepted-sound : (asked : Asked) (c : Settings) → worked_of asked ≡ Accepted c → Sound c
@@ -173,15 +172,15 @@ accepted-sound asked c e = go (symbol_rate asked.s) refl right.range
     right : Right asked
     right = (accepted-when asked).0 (c, e)
 
-    go : (rate : Rate) → symbol_rate asked.s ≡ rate → Within rate asked.n → Sound c
-    go (Known rate) f w = subst Sound same (settings-sound asked rate right.end right.kind f w.0 w.1)
+    go : (rate : Option SymbolRate) → symbol_rate asked.s ≡ rate → Within rate asked.n → Sound c
+    go (Some rate) f w = subst Sound same (settings-sound asked rate right.end right.kind f w.0 w.1)
       where
         same : settings_of asked rate ≡ c
         same =
             let u = unrefused_is asked (right_unrefused asked right) in
             let v = known-accepted asked rate f in
             cc
-    go Unknown f w = absurd w
+    go None f w = absurd w
 
 -- none of their values N P b r K q M L is above 1,664
 pub values-most : (c : Settings) → Sound c → Every (λ value. value ≤ 1664) (values_of (Accepted c))

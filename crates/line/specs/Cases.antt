@@ -2,8 +2,7 @@
 -- the lengths of the mapping frames of a data frame.
 use Rattle.std.specs.Prelude.{List, [], ◌∷◌, ◌++◌, ℕ}
 use Rattle.line.specs.declared.asked.Asked.{Asked}
-use Rattle.line.specs.declared.settings.Worked.{Worked}
-use Rattle.line.specs.declared.settings.Worked.TheVariants.{Accepted, Refused}
+use Rattle.line.specs.Worked.{Worked, Accepted, Refused}
 use Rattle.line.specs.Asked.{asked}
 use Rattle.line.specs.Switching.{frame_lengths}
 

@@ -12,24 +12,21 @@
 --     0      5   14   1         0       refused 6
 --     0      5   14   1         2       refused 5
 --     0      0   1    0         2       refused 5
-use Rattle.std.specs.Prelude.{Bool, true, ◌||◌, ◌&&◌, cond, List, [], ◌∷◌, ℕ, leb, ltb, eqb}
+use Rattle.std.specs.Prelude.{Bool, true, ◌||◌, ◌&&◌, cond, List, [], ◌∷◌, ℕ, leb, ltb, eqb, Option, Some, None}
 use Rattle.laws.specs.Choice.{refusal}
 use Rattle.line.specs.declared.asked.Asked.{Asked}
 use Rattle.line.specs.declared.rate.SymbolRate.{SymbolRate}
-use Rattle.line.specs.declared.rate.Rate.{Rate}
-use Rattle.line.specs.declared.rate.Rate.TheVariants.{Known, Unknown}
 use Rattle.line.specs.declared.settings.Shaping.{Shaping}
 use Rattle.line.specs.declared.settings.Shaping.TheVariants.{Minimum, Expanded}
 use Rattle.line.specs.declared.settings.Settings.{Settings}
-use Rattle.line.specs.declared.settings.Worked.{Worked}
-use Rattle.line.specs.declared.settings.Worked.TheVariants.{Accepted, Refused}
+use Rattle.line.specs.Worked.{Worked, Accepted, Refused}
 use Rattle.line.specs.Rates.{symbol_rate}
 use Rattle.line.specs.Numbers.{bits_of, high_of, step_of, uncoded_of, shell_of, minimum_of, expanded_of, points_of}
 
 -- n outside the range of a symbol rate
-abbrev pub outside : Rate → ℕ → Bool
-outside (Known rate) n = ltb n rate.least || ltb rate.most n
-outside Unknown n = true
+abbrev pub outside : Option SymbolRate → ℕ → Bool
+outside (Some rate) n = ltb n rate.least || ltb rate.most n
+outside None n = true
 
 -- a mark that is not stated, and one that says that the far end has no large constellation
 abbrev pub unstated : ℕ → Bool
@@ -85,9 +82,9 @@ settings_of asked rate =
     }
 
 -- the settings of a rate that is known
-unfoldable pub accepted_of : Asked → Rate → Worked
-accepted_of asked (Known rate) = Accepted (settings_of asked rate)
-accepted_of asked Unknown = Refused 2
+unfoldable pub accepted_of : Asked → Option SymbolRate → Worked
+accepted_of asked (Some rate) = Accepted (settings_of asked rate)
+accepted_of asked None = Refused 2
 
 -- what the work-out answers
 unfoldable pub worked_of : Asked → Worked

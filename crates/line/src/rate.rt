@@ -2,20 +2,14 @@
 ghost use Rattle.std.specs.Prelude.{◌≡◌};
 ghost use Rattle.line.specs.Rates.{rate, symbol_rate};
 
-// J data frames in a superframe, P mapping frames in a data frame, and the range of n, the data rate in steps of 2,400 bit/s.
+// J data frames in a superframe, P mapping frames in a data frame, and the range of n, the data rate in steps of 2,400 bit/s. Each of the
+// six has a constant and a function that makes it: that form is a rule of the project.
 #[derive(Clone, Copy)]
 pub struct SymbolRate {
     pub j: u64,
     pub p: u64,
     pub least: u64,
     pub most: u64,
-}
-
-// A symbol rate, or none that V.34 has.
-#[derive(Clone, Copy)]
-pub enum Rate {
-    Known(SymbolRate),
-    Unknown,
 }
 
 impl SymbolRate {
@@ -97,18 +91,19 @@ impl SymbolRate {
         SymbolRate::R3429
     }
 
-    // The symbol rate that s names.
-    pub fn of(s: u64) -> Rate
+    // The symbol rate that s names, if V.34 has one.
+    #[tactic(auto, using(crate::proofs::Rows::rows), unfolding(crate::specs::Rates::symbol_rate, crate::specs::Rates::row_of))]
+    pub fn of(s: u64) -> Option<SymbolRate>
         ensures { result ≡ symbol_rate s }
     {
         match s {
-            0 => Rate::Known(SymbolRate::r2400()),
-            1 => Rate::Known(SymbolRate::r2743()),
-            2 => Rate::Known(SymbolRate::r2800()),
-            3 => Rate::Known(SymbolRate::r3000()),
-            4 => Rate::Known(SymbolRate::r3200()),
-            5 => Rate::Known(SymbolRate::r3429()),
-            _ => Rate::Unknown,
+            0 => Some(SymbolRate::r2400()),
+            1 => Some(SymbolRate::r2743()),
+            2 => Some(SymbolRate::r2800()),
+            3 => Some(SymbolRate::r3000()),
+            4 => Some(SymbolRate::r3200()),
+            5 => Some(SymbolRate::r3429()),
+            _ => None,
         }
     }
 }

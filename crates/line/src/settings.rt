@@ -1,20 +1,34 @@
 // The settings of a line, worked out or refused (document 01, "Settings" and "What comes back").
-ghost use Rattle.std.specs.Prelude.{◌≡◌, ◌<◌};
+ghost use Rattle.std.specs.Prelude.{◌≡◌, ◌<◌, IfOk};
+ghost use Rattle.refusals.specs.Numbers.{code};
 ghost use Rattle.line.specs.Requires.{InRange};
-ghost use Rattle.line.specs.Settings.{unstated, denied, settings_refusal, shaping_of, rings_of_shaping, settings_of, worked_of};
-ghost use Rattle.line.specs.Settings.{number_of, values_of};
-ghost use Rattle.line.specs.declared.settings.Worked.TheVariants.{Accepted};
+ghost use Rattle.line.specs.Rates.{symbol_rate};
+ghost use Rattle.line.specs.Settings.{unstated, denied, settings_refusal, shaping_of, rings_of_shaping, settings_of, worked_of, values_of};
+ghost use Rattle.line.specs.Worked.{Accepted, told};
 
 use crate::asked::Asked;
 use crate::numbers::{bits_of, high_of, points_of, shell_of, step_of, uncoded_of};
-use crate::rate::{Rate, SymbolRate};
-use crate::shells::{expanded_rings, minimum_rings};
+use crate::rate::SymbolRate;
+use crate::shells::{EXPANDED, MINIMUM};
+use refusals::Refusal;
 
 // The kind of shaping, holding its ring count M.
 #[derive(Clone, Copy)]
 pub enum Shaping {
     Minimum(u64),
     Expanded(u64),
+}
+
+impl Shaping {
+    // The ring count M.
+    pub fn rings(self) -> u64
+        ensures { result ≡ rings_of_shaping self }
+    {
+        match self {
+            Shaping::Minimum(m) => m,
+            Shaping::Expanded(m) => m,
+        }
+    }
 }
 
 // A checked set of settings, with the numbers that follow from them.
@@ -44,42 +58,23 @@ pub struct Settings {
     pub points: u64,
 }
 
-// The settings worked out, or the refusal number.
-#[derive(Clone, Copy)]
-pub enum Worked {
-    Accepted(Settings),
-    Refused(u64),
-}
-
-// The refusal number of an answer, 0 where the settings are accepted.
-pub fn refusal_of(w: Worked) -> u64
-    ensures { result ≡ number_of w }
-{
-    match w {
-        Worked::Accepted(_) => 0,
-        Worked::Refused(no) => no,
+impl Settings {
+    // N P b r K q M L.
+    pub fn values(self) -> [u64; 8]
+        ensures { result ≡ values_of (Accepted self) }
+    {
+        let rings = self.shaping.rings();
+        [
+            self.bits,
+            self.frames,
+            self.high,
+            self.step,
+            self.shell,
+            self.uncoded,
+            rings,
+            self.points,
+        ]
     }
-}
-
-// The ring count M of a shaping.
-pub fn rings_of_shaping(shaping: Shaping) -> u64
-    ensures { result ≡ rings_of_shaping shaping }
-{
-    match shaping {
-        Shaping::Minimum(m) => m,
-        Shaping::Expanded(m) => m,
-    }
-}
-
-// N P b r K q M L of a checked set of settings.
-pub fn values_of(c: Settings) -> [u64; 8]
-    ensures { result ≡ values_of (Accepted c) }
-{
-    let shaping = c.shaping;
-    let rings = rings_of_shaping(shaping);
-    [
-        c.bits, c.frames, c.high, c.step, c.shell, c.uncoded, rings, c.points,
-    ]
 }
 
 // The shaping that the number names, of K bits.
@@ -87,10 +82,10 @@ fn shaping_of(shaping: u64, k: u64) -> Shaping
     requires { k < 32 }
     ensures { result ≡ shaping_of shaping k }
 {
-    if shaping == 0 {
-        return Shaping::Minimum(minimum_rings(k));
+    match shaping {
+        0 => Shaping::Minimum(MINIMUM[k as usize]),
+        _ => Shaping::Expanded(EXPANDED[k as usize]),
     }
-    Shaping::Expanded(expanded_rings(k))
 }
 
 // The numbers that follow from what is asked, at the symbol rate that it names.
@@ -104,8 +99,8 @@ fn settings_of(asked: Asked, rate: SymbolRate) -> Settings
     let step = step_of(bits, frames, high);
     let uncoded = uncoded_of(high);
     let shell = shell_of(high, uncoded);
-    let kind = shaping_of(asked.shaping, shell);
-    let points = points_of(rings_of_shaping(kind), uncoded);
+    let shaping = shaping_of(asked.shaping, shell);
+    let points = points_of(shaping.rings(), uncoded);
     Settings {
         role: asked.role,
         superframe: rate.j,
@@ -116,7 +111,7 @@ fn settings_of(asked: Asked, rate: SymbolRate) -> Settings
         step,
         shell,
         uncoded,
-        shaping: kind,
+        shaping,
         points,
     }
 }
@@ -135,49 +130,36 @@ fn is_denied(mark: u64) -> bool
     mark == 0
 }
 
-// The first refusal that holds of what is asked, 0 where none does.
-fn first_refusal(asked: Asked) -> u64
-    ensures { result ≡ settings_refusal asked }
+// The symbol rate of what is asked, or the first refusal that holds.
+fn permitted_rate(asked: Asked) -> Result<SymbolRate, Refusal>
+    ensures refused { code result ≡ settings_refusal asked }
+    ensures named { IfOk result (λ rate. symbol_rate asked.s ≡ Some rate) }
 {
-    let unstated = is_unstated(asked.mark);
-    let denied = is_denied(asked.mark);
     if asked.role > 1 {
-        return 1;
+        return Err(Refusal::UnknownRole);
     }
-    let Rate::Known(rate) = SymbolRate::of(asked.s) else {
-        return 2;
+    let Some(rate) = SymbolRate::of(asked.s) else {
+        return Err(Refusal::UnknownRate);
     };
-    if asked.n < rate.least {
-        return 3;
-    }
-    if asked.n > rate.most {
-        return 3;
+    if asked.n < rate.least || asked.n > rate.most {
+        return Err(Refusal::DataRateOutOfRange);
     }
     if asked.shaping > 1 {
-        return 4;
+        return Err(Refusal::UnknownShaping);
     }
-    if unstated {
-        return 5;
+    if is_unstated(asked.mark) {
+        return Err(Refusal::UnstatedMark);
     }
-    if asked.n < 13 {
-        return 0;
+    if asked.n >= 13 && is_denied(asked.mark) {
+        return Err(Refusal::DeniedDataRate);
     }
-    if denied {
-        return 6;
-    }
-    0
+    Ok(rate)
 }
 
 // The settings that are asked for, worked out, or the first refusal that holds.
-pub fn work_out(asked: Asked) -> Worked
-    ensures { result ≡ worked_of asked }
+pub fn work_out(asked: Asked) -> Result<Settings, Refusal>
+    ensures { told result ≡ worked_of asked }
 {
-    let number = first_refusal(asked);
-    if number > 0 {
-        return Worked::Refused(number);
-    }
-    let Rate::Known(rate) = SymbolRate::of(asked.s) else {
-        return Worked::Refused(2);
-    };
-    Worked::Accepted(settings_of(asked, rate))
+    let rate = permitted_rate(asked)?;
+    Ok(settings_of(asked, rate))
 }

@@ -10,19 +10,21 @@ pub struct Turn {
 }
 
 // The counter's step before a mapping frame.
+#[tactic(auto, unfolding(crate::specs::Switching::counter_after))]
 pub fn next_frame(frames: u64, step: u64, counter: u64) -> Turn
     requires { (step ≤ frames) × (counter < frames) × (frames ≤ 16) }
     ensures { (result.high ≡ is_high frames step counter) × (result.counter ≡ counter_after frames step counter) }
 {
     let sum = counter + step;
     if sum < frames {
-        return Turn {
+        Turn {
             high: false,
             counter: sum,
-        };
-    }
-    Turn {
-        high: true,
-        counter: sum - frames,
+        }
+    } else {
+        Turn {
+            high: true,
+            counter: sum - frames,
+        }
     }
 }

@@ -11,7 +11,7 @@ use lib.ListN.{length, get_or, take, drop, length-drop}
 use lib.Seq.{drop-drop, length-take-le, get_or-take, get_or-drop}
 use Rattle.laws.proofs.Bools.{and_parts}
 use Rattle.line.specs.declared.settings.Settings.{Settings}
-use Rattle.line.specs.declared.settings.Worked.TheVariants.{Accepted}
+use Rattle.line.specs.Worked.{Accepted}
 use Rattle.line.specs.Switching.{counter_after}
 use Rattle.line.proofs.Soundness.{Sound, accepted-sound}
 use Rattle.frame.specs.declared.shape.Shape.{Shape}

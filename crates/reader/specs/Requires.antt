@@ -3,7 +3,7 @@ use Rattle.std.specs.Prelude.{true, List, ◌≡◌, ℕ, ◌*◌, ◌^◌, ◌�
 use Rattle.line.specs.Settings.{worked_of}
 use Rattle.line.specs.declared.asked.Asked.{Asked}
 use Rattle.line.specs.declared.settings.Settings.{Settings}
-use Rattle.line.specs.declared.settings.Worked.TheVariants.{Accepted}
+use Rattle.line.specs.Worked.{Accepted}
 use Rattle.frame.specs.Reading.{number_fits, steps_fit}
 use Rattle.frame.specs.Requires.{Readable}
 use Rattle.frame.specs.declared.shape.Shape.{Shape}

@@ -1,6 +1,6 @@
 // The tests of the reader, one for each refusal, each over the whole data frame, and the refusals in their order.
 ghost use Rattle.std.specs.Prelude.{true, ◌≡◌, ℕ, ◌≤◌, length};
-ghost use Rattle.line.specs.declared.settings.Worked.TheVariants.{Accepted};
+ghost use Rattle.line.specs.Worked.{Accepted};
 ghost use Rattle.counts.specs.Counts.{CountsOf};
 ghost use Rattle.coder.specs.Answers.{read_refusal};
 ghost use Rattle.reader.specs.OneFrame.{Ranked};

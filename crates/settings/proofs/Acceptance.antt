@@ -12,8 +12,7 @@ use lib.ListN.{length, get_or, drop, get_or-append}
 use borrow.Author.Tests.{eqb-true, eq-eqb}
 use Rattle.laws.specs.Lists.{Every}
 use Rattle.line.specs.declared.settings.Settings.{Settings}
-use Rattle.line.specs.declared.settings.Worked.{Worked}
-use Rattle.line.specs.declared.settings.Worked.TheVariants.{Accepted, Refused}
+use Rattle.line.specs.Worked.{Worked, Accepted, Refused}
 use Rattle.line.specs.Settings.{worked_of, values_of}
 use Rattle.line.proofs.Acceptance.{Right, accepted-when as worked-when}
 use Rattle.settings.specs.Decimal.{decimal}

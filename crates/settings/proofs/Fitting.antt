@@ -10,8 +10,7 @@ use Rattle.laws.specs.Lists.{Every}
 use Rattle.laws.proofs.Counting.{every-imp}
 use Rattle.line.specs.declared.asked.Asked.{Asked}
 use Rattle.line.specs.declared.settings.Settings.{Settings}
-use Rattle.line.specs.declared.settings.Worked.{Worked}
-use Rattle.line.specs.declared.settings.Worked.TheVariants.{Accepted, Refused}
+use Rattle.line.specs.Worked.{Worked, Accepted, Refused}
 use Rattle.line.specs.Settings.{worked_of, number_of, values_of}
 use Rattle.line.proofs.Acceptance.{number-most}
 use Rattle.line.proofs.Soundness.{Sound, accepted-sound, values-most}

@@ -8,8 +8,7 @@
 --     0, 5, 14, 1       refused 8
 use Rattle.std.specs.Prelude.{Bool, cond, List, [], ◌∷◌, ◌++◌, ◌≡◌, ℕ, eqb, length, get_or, drop}
 use Rattle.line.specs.declared.asked.Asked.{Asked}
-use Rattle.line.specs.declared.settings.Worked.{Worked}
-use Rattle.line.specs.declared.settings.Worked.TheVariants.{Accepted, Refused}
+use Rattle.line.specs.Worked.{Worked, Accepted, Refused}
 use Rattle.line.specs.Asked.{asked}
 use Rattle.line.specs.Settings.{worked_of, values_of}
 use Rattle.settings.specs.Decimal.{decimal}

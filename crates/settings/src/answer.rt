@@ -1,7 +1,7 @@
 // From the input of the settings program to the line that it prints.
 ghost use Rattle.std.specs.Prelude.{◌≡◌, ◌≤◌, length};
 ghost use Rattle.laws.specs.Put.{Put};
-ghost use Rattle.line.specs.declared.settings.Worked.TheVariants.{Accepted, Refused};
+ghost use Rattle.line.specs.Worked.{Accepted, Refused};
 ghost use Rattle.settings.specs.Lines.{asked_in, answer_of, text_of, line_of, Answers};
 
 use crate::text::{put_byte, put_bytes, put_joined, put_spaced};

@@ -32,7 +32,7 @@ use Rattle.rings.proofs.Acceptance.{mapper_accepts, ranker_accepts}
 use Rattle.line.specs.Asked.{asked}
 use Rattle.line.specs.declared.asked.Asked.{Asked}
 use Rattle.line.specs.declared.settings.Settings.{Settings}
-use Rattle.line.specs.declared.settings.Worked.TheVariants.{Accepted}
+use Rattle.line.specs.Worked.{Accepted}
 use Rattle.line.specs.Settings.{worked_of, number_of}
 use Rattle.line.proofs.Acceptance.{Right, unrefused_right, right_unrefused, number_is}
 use Rattle.sequences.specs.Picture.{fixed, places}

@@ -8,7 +8,7 @@ use lib.ListN.{length}
 use Rattle.bits.specs.Digits.{Bits}
 use Rattle.laws.specs.Lists.{Every}
 use Rattle.line.specs.declared.settings.Settings.{Settings}
-use Rattle.line.specs.declared.settings.Worked.TheVariants.{Accepted}
+use Rattle.line.specs.Worked.{Accepted}
 use Rattle.coder.specs.declared.states.State.{State}
 use Rattle.coder.specs.declared.states.Coded.{Coded}
 use Rattle.coder.specs.Answers.{bits_of, written_of, labels_after, read_of, bits_after, Receivable}

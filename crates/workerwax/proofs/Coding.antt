@@ -10,8 +10,7 @@ use lib.Seq.{length-take-le, take_all}
 use borrow.Author.Tests.{ne_eqb}
 use Rattle.laws.specs.Choice.{refusal}
 use Rattle.line.specs.declared.settings.Settings.{Settings}
-use Rattle.line.specs.declared.settings.Worked.{Worked}
-use Rattle.line.specs.declared.settings.Worked.TheVariants.{Accepted, Refused}
+use Rattle.line.specs.Worked.{Worked, Accepted, Refused}
 use Rattle.coder.specs.declared.states.State.{State}
 use Rattle.coder.specs.declared.states.Coded.{Coded}
 use Rattle.coder.specs.State.{worked_in, unfit}

@@ -16,8 +16,7 @@ use Rattle.line.specs.Asked.{asked}
 use Rattle.line.specs.Settings.{refusals, settings_refusal, worked_of, number_of}
 use Rattle.line.specs.declared.asked.Asked.{Asked}
 use Rattle.line.specs.declared.settings.Settings.{Settings}
-use Rattle.line.specs.declared.settings.Worked.{Worked}
-use Rattle.line.specs.declared.settings.Worked.TheVariants.{Accepted, Refused}
+use Rattle.line.specs.Worked.{Worked, Accepted, Refused}
 use Rattle.line.proofs.Acceptance.{number_is, refused-some}
 use Rattle.sequences.specs.Sequence.{Sequence, fields_tests, sequence_tests, is_long}
 use Rattle.info.specs.Info0.{info0}

@@ -2,7 +2,7 @@
 use mathlib.Core.List.{List}
 use mathlib.Core.Path.{◌≡◌, sym, ◌∙◌}
 use Prim.Native.Nat.{ℕ}
-use Rattle.line.specs.declared.settings.Worked.{Worked}
+use Rattle.line.specs.Worked.{Worked}
 use Rattle.rings.specs.Mapping.{MapAnswer}
 use Rattle.sequences.specs.Sequence.{Sequence}
 use Rattle.info.specs.Info0.{info0}

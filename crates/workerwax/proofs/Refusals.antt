@@ -12,8 +12,7 @@ use Rattle.laws.proofs.Choices.{within, refusal-most}
 use Rattle.rings.specs.Mapping.{map_refusal, rank_refusal, ranked_of}
 use Rattle.line.specs.Asked.{asked}
 use Rattle.line.specs.declared.asked.Asked.{Asked}
-use Rattle.line.specs.declared.settings.Worked.{Worked}
-use Rattle.line.specs.declared.settings.Worked.TheVariants.{Accepted, Refused}
+use Rattle.line.specs.Worked.{Worked, Accepted, Refused}
 use Rattle.line.specs.Settings.{worked_of, number_of}
 use Rattle.line.proofs.Acceptance.{number-most}
 use Rattle.sequences.specs.Sequence.{Sequence, fields_tests, sequence_tests, fields_refusal, sequence_refusal}

@@ -17,7 +17,7 @@ use Rattle.rings.specs.Mapping.{rank_refusal, ranked_of}
 use Rattle.rings.proofs.Answering.{first_tests}
 use Rattle.line.specs.declared.asked.Asked.{Asked}
 use Rattle.line.specs.declared.settings.Settings.{Settings}
-use Rattle.line.specs.declared.settings.Worked.TheVariants.{Accepted, Refused}
+use Rattle.line.specs.Worked.{Accepted, Refused}
 use Rattle.line.specs.Settings.{worked_of, values_of}
 use Rattle.coder.specs.declared.states.Started.{Started}
 use Rattle.line.proofs.Acceptance.{refused-some}

@@ -14,7 +14,7 @@ use Rattle.laws.specs.Lists.{Every}
 use Rattle.laws.proofs.Counting.{every-imp}
 use Rattle.line.specs.declared.asked.Asked.{Asked}
 use Rattle.line.specs.declared.settings.Settings.{Settings}
-use Rattle.line.specs.declared.settings.Worked.TheVariants.{Accepted}
+use Rattle.line.specs.Worked.{Accepted}
 use Rattle.line.specs.Settings.{worked_of, values_of}
 use Rattle.line.proofs.Acceptance.{accepted-when}
 use Rattle.line.proofs.Soundness.{Sound, accepted-sound, rate-most, values-most}

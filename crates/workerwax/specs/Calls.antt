@@ -31,8 +31,7 @@ use Rattle.listing.specs.Sets.{of_list}
 use Rattle.listing.specs.Number.{number}
 use Rattle.rings.specs.Mapping.{rank_refusal}
 use Rattle.line.specs.declared.settings.Settings.{Settings}
-use Rattle.line.specs.declared.settings.Worked.{Worked}
-use Rattle.line.specs.declared.settings.Worked.TheVariants.{Accepted, Refused}
+use Rattle.line.specs.Worked.{Worked, Accepted, Refused}
 use Rattle.line.specs.Settings.{number_of, values_of}
 use Rattle.coder.specs.declared.states.State.{State}
 use Rattle.coder.specs.declared.states.Started.{Started}

@@ -1,6 +1,6 @@
 // The writer, for whatever it is given (document 01, "What comes back").
 ghost use Rattle.std.specs.Prelude.{◌≡◌, ◌≤◌};
-ghost use Rattle.line.specs.declared.settings.Worked.TheVariants.{Accepted};
+ghost use Rattle.line.specs.Worked.{Accepted};
 ghost use Rattle.coder.specs.Answers.{WriteAnswer, write_refusal};
 
 use crate::frames::send;

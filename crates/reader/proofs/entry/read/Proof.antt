@@ -2,7 +2,7 @@
 use mathlib.Core.Path.{◌≡◌, refl, sym, ap₂, ◌∙◌}
 use borrow.Author.Rules.{rules}
 use lib.ListN.{length}
-use Rattle.line.specs.declared.settings.Worked.TheVariants.{Accepted}
+use Rattle.line.specs.Worked.{Accepted}
 use Rattle.counts.specs.Counts.{CountsOf}
 use Rattle.coder.specs.Answers.{coded, read_refusal}
 use Rattle.coder.specs.Receiving.{data_read_register}

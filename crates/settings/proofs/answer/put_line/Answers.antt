@@ -1,7 +1,7 @@
 -- The text of the answer, and then the line feed.
 use Rattle.std.proofs.Common.{arith, ap, length}
 use Rattle.laws.proofs.Puts.{put-more}
-use Rattle.line.specs.declared.settings.Worked.{Worked}
+use Rattle.line.specs.Worked.{Worked}
 use Rattle.settings.specs.Lines.{answer_of, text_of, ended, line_of}
 use Rattle.settings.proofs.Fitting.{ended-length}
 use Rattle.settings.proofs.answer.put_line.Goals as goal

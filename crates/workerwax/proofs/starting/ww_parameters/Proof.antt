@@ -6,7 +6,7 @@ use lib.ListN.{length}
 use Rattle.line.specs.Asked.{asked}
 use Rattle.line.specs.Settings.{worked_of, number_of}
 use Rattle.line.specs.declared.asked.Asked.{Asked}
-use Rattle.line.specs.declared.settings.Worked.TheVariants.{Accepted, Refused}
+use Rattle.line.specs.Worked.{Accepted, Refused}
 use Rattle.workerwax.specs.Layout.{words}
 use Rattle.workerwax.proofs.Refusals.{settings-narrow}
 use Rattle.workerwax.proofs.Ways.{parameters_refused, parameters_unlent, parameters_done}

@@ -2,7 +2,7 @@
 use mathlib.Core.Path.{◌≡◌, refl, sym, ap₂, ◌∙◌}
 use borrow.Author.Rules.{rules}
 use lib.ListN.{length}
-use Rattle.line.specs.declared.settings.Worked.TheVariants.{Accepted, Refused}
+use Rattle.line.specs.Worked.{Accepted, Refused}
 use Rattle.line.proofs.Soundness.{accepted-sound}
 use Rattle.coder.specs.Answers.{coded, write_refusal}
 use Rattle.coder.specs.State.{worked_in}
