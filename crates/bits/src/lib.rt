@@ -15,12 +15,10 @@ pub fn all_bits(bits: &[u8]) -> bool
     ensures { result ≡ all_bits bits.now }
 {
     let mut good = true;
-    let mut i = 0;
-    while i < bits.len() {
-        if bits[i] > 1 {
+    for bit in bits {
+        if *bit > 1 {
             good = false;
         }
-        i += 1;
     }
     good
 }
@@ -30,11 +28,9 @@ pub fn value_at(bits: &[u8], at: usize, n: usize) -> u64
     requires { (at + n ≤ length bits.now) × (n ≤ 31) × Bits bits.now }
     ensures { result ≡ value (take n (drop at bits.now)) }
 {
-    let mut i = n;
-    let mut sum: u64 = 0;
-    while i > 0 {
-        i -= 1;
-        sum = 2 * sum + bits[at + i] as u64;
+    let mut sum = 0;
+    for bit in bits[at..at + n].iter().rev() {
+        sum = 2 * sum + u64::from(*bit);
     }
     sum
 }
@@ -45,11 +41,9 @@ pub fn put_digits(x: u64, n: usize, bits: &mut [u8], at: usize)
     ensures { bits.new ≡ put bits.old at (digits n x) }
 {
     let mut left = x;
-    let mut i = 0;
-    while i < n {
-        bits[at + i] = (left % 2) as u8;
-        left = left / 2;
-        i += 1;
+    for bit in &mut bits[at..at + n] {
+        *bit = (left % 2) as u8;
+        left /= 2;
     }
 }
 

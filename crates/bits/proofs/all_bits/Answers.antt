@@ -6,12 +6,12 @@ use Rattle.std.proofs.lemmas.Grind.{common_steps}
 use Rattle.bits.proofs.Tested.{next-byte, no_byte}
 use Rattle.bits.proofs.all_bits.Goals as goal
 
-pub loop-i-preserved : goal.loop-i-preserved
-loop-i-preserved c =
-    next-byte c.args.bits.now c.loop-i.i c.loop-i.good _ c.loop-i-test.true
+pub loop-bit-preserved : goal.loop-bit-preserved
+loop-bit-preserved c =
+    next-byte c.args.bits.now c.loop-bit.bit-index c.loop-bit.good _ c.loop-bit-test.true
     (λ large. grind (arith, common_steps))
     (λ small. grind (arith, common_steps))
-    ∙ c.loop-i.invariant
+    ∙ c.loop-bit.invariant
 
 pub returns : goal.returns
-returns c = sym (sym c.loop-i.invariant ∙ rw (no_byte _ c.loop-i.i c.loop-i-test.false, and-true c.loop-i.good))
+returns c = sym (sym c.loop-bit.invariant ∙ rw (no_byte _ c.loop-bit.bit-index c.loop-bit-test.false, and-true c.loop-bit.good))
