@@ -10,14 +10,15 @@ use lib.ListN.{length, get_or, take, drop, length-append}
 use lib.Seq.{get_or-drop, drop-drop, take_at}
 use Rattle.laws.specs.Emit.{emit}
 use Rattle.laws.specs.Put.{put, Put}
-use Rattle.laws.proofs.Emits.{Filling, filling_front, filling_more, filling_whole, part_room}
+use Rattle.laws.proofs.Emits.{Filling, filling_front, filling_more, filling_whole, filling_last, part_room}
 use Rattle.bits.specs.Digits.{digits}
 use Rattle.bits.proofs.Digitals.{length_digits}
-use Rattle.frame.specs.Reading.{Reading, symbol_read, symbol_bits, read_bits, after_read}
+use Rattle.frame.specs.Reading.{Reading, symbol_read, symbol_bits, read_bits, after_read, frame_read_turned}
 use Rattle.frame.specs.Shape.{symbol_length}
 use Rattle.frame.specs.declared.symbol.Symbol.{Symbol}
 use Rattle.frame.proofs.InTurn.{reading, still, four_symbols, read_length}
 use Rattle.frame.proofs.Symbols.{length-symbol_bits}
+use Rattle.frame.proofs.Written.{last_turn}
 
 module _ (q threes shell number : ℕ) (labels : List ℕ) where
   -- what is left to read before the j-th symbol
@@ -90,5 +91,9 @@ module _ {q threes shell number : ℕ} {labels : List ℕ} {z₀ at z j : ℕ} {
           turn = turn;
         }
 
-  pub read_all : 4 ≤ j → bits ≡ digits shell number ++ emit (read_bits q) (after_read q) 4 (reading labels threes z₀)
-  read_all all = filling_whole h.filling all
+  -- after four symbols the frame is read, and Z is the last one among the labels
+  pub read_all :
+      4 ≤ j
+      → (bits ≡ digits shell number ++ emit (read_bits q) (after_read q) 4 (reading labels threes z₀)) × (z ≡ frame_read_turned labels)
+  read_all all =
+      (filling_whole h.filling all, ap (λ (r : Reading). r.z) (filling_last h.filling all) ∙ sym (last_turn q threes z₀ labels))

@@ -6,21 +6,12 @@ ghost use Rattle.frame.specs.Requires.{Stepped};
 use crate::read::{label_at, z_step};
 use crate::shape::Shape;
 
-// Whether the four labels from `at` on are in their ranges, `top` being M·2^q.
-fn symbol_in_range(top: u64, labels: &[u16], at: usize) -> bool
-    requires { at + 4 ≤ length labels.now }
-    ensures { result ≡ in_range_at top labels.now at }
+// Whether the four labels of a symbol are in their ranges, `top` being M·2^q.
+fn symbol_in_range(top: u64, four: &[u16]) -> bool
+    requires { length four.now ≡ 4 }
+    ensures { result ≡ in_range_at top four.now 0 }
 {
-    if label_at(labels, at) >= top {
-        return false;
-    }
-    if label_at(labels, at + 1) >= top {
-        return false;
-    }
-    if label_at(labels, at + 2) > 3 {
-        return false;
-    }
-    label_at(labels, at + 3) <= 1
+    u64::from(four[0]) < top && u64::from(four[1]) < top && four[2] <= 3 && four[3] <= 1
 }
 
 // Refusal 10: whether all labels are in their ranges.
@@ -28,15 +19,10 @@ pub fn in_range(m: u64, q: usize, labels: &[u16]) -> bool
     requires { (length labels.now ≡ 16) × (m ≤ 18) × (q ≤ 5) }
     ensures { result ≡ in_range m q 4 labels.now }
 {
-    let top = m * (1u64 << q);
-    let mut j = 0;
-    while j < 4 {
-        if !symbol_in_range(top, labels, 4 * j) {
-            return false;
-        }
-        j += 1;
-    }
-    true
+    let top = m << q;
+    labels
+        .chunks_exact(4)
+        .all(|four| symbol_in_range(top, four))
 }
 
 // Refusal 11: whether the frame has the bits to write the number of the eight rings.
@@ -51,10 +37,7 @@ pub fn number_fits(shape: Shape, number: u64) -> bool
 fn step_fits(three: bool, step: u64) -> bool
     ensures { result ≡ (three || ltb step 2) }
 {
-    if three {
-        return true;
-    }
-    step < 2
+    three || step < 2
 }
 
 // Refusal 12: whether no symbol steps further than it can say.
@@ -63,14 +46,12 @@ pub fn steps_fit(threes: usize, z: u64, labels: &[u16]) -> bool
     ensures { result ≡ steps_fit threes z 4 labels.now }
 {
     let mut turned = z;
-    let mut j = 0;
-    while j < 4 {
+    for j in 0..4 {
         let next = label_at(labels, 4 * j + 2);
         if !step_fits(j < threes, z_step(turned, next)) {
             return false;
         }
         turned = next;
-        j += 1;
     }
     true
 }

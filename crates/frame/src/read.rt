@@ -14,7 +14,7 @@ pub fn label_at(labels: &[u16], at: usize) -> u64
     requires { at < length labels.now }
     ensures { result ≡ get_or labels.now at 0 }
 {
-    labels[at] as u64
+    u64::from(labels[at])
 }
 
 // The ring of the label at `at`.
@@ -22,7 +22,7 @@ fn ring_at(q: usize, labels: &[u16], at: usize) -> u8
     requires { (at < length labels.now) × (q ≤ 5) × (get_or labels.now at 0 / 2 ^ q < 256) }
     ensures { result ≡ get_or labels.now at 0 / 2 ^ q }
 {
-    (label_at(labels, at) / (1u64 << q)) as u8
+    (labels[at] >> q) as u8
 }
 
 // The eight rings of sixteen labels: two for each symbol.
@@ -30,16 +30,11 @@ pub fn rings_read(q: usize, labels: &[u16]) -> [u8; 8]
     requires { RingsFit q labels.now }
     ensures { result ≡ rings_read q 4 labels.now }
 {
-    [
-        ring_at(q, labels, 0),
-        ring_at(q, labels, 1),
-        ring_at(q, labels, 4),
-        ring_at(q, labels, 5),
-        ring_at(q, labels, 8),
-        ring_at(q, labels, 9),
-        ring_at(q, labels, 12),
-        ring_at(q, labels, 13),
-    ]
+    let mut rings = [0; 8];
+    for (i, ring) in rings.iter_mut().enumerate() {
+        *ring = ring_at(q, labels, 4 * (i / 2) + i % 2);
+    }
+    rings
 }
 
 // The step from one Z to the next: I2 + 2·I3.
@@ -50,19 +45,19 @@ pub fn z_step(z: u64, next: u64) -> u64
     (next + 4 - z) % 4
 }
 
-// The symbol that the four labels from `at` on say.
-fn symbol_read(q: usize, z: u64, labels: &[u16], at: usize) -> Symbol
-    requires { (at + 4 ≤ length labels.now) × (q ≤ 5) × (z ≤ 3) × (get_or labels.now (at + 2) 0 ≤ 3) }
-    ensures { result ≡ symbol_read q z (drop at labels.now) }
+// The symbol that four labels say.
+fn symbol_read(q: usize, z: u64, four: &[u16]) -> Symbol
+    requires { (length four.now ≡ 4) × (q ≤ 5) × (z ≤ 3) × (get_or four.now 2 0 ≤ 3) }
+    ensures { result ≡ symbol_read q z four.now }
 {
-    let step = z_step(z, label_at(labels, at + 2));
-    let scale = 1u64 << q;
+    let step = z_step(z, u64::from(four[2]));
+    let scale = 1 << q;
     Symbol {
-        i1: label_at(labels, at + 3),
+        i1: u64::from(four[3]),
         i2: step % 2,
         i3: step / 2,
-        first: label_at(labels, at) % scale,
-        second: label_at(labels, at + 1) % scale,
+        first: u64::from(four[0]) % scale,
+        second: u64::from(four[1]) % scale,
     }
 }
 
@@ -102,12 +97,11 @@ pub fn read_frame(shape: Shape, number: u64, z: u64, labels: &[u16], bits: &mut 
     let mut at = shape.shell;
     put_digits(number, at, bits, 0);
     let mut turned = z;
-    let mut j = 0;
-    while j < 4 {
-        let symbol = symbol_read(q, turned, labels, 4 * j);
+    for j in 0..4 {
+        let four = &labels[4 * j..4 * j + 4];
+        let symbol = symbol_read(q, turned, four);
         at = put_symbol(symbol, q, j < threes, bits, at);
-        turned = label_at(labels, 4 * j + 2);
-        j += 1;
+        turned = u64::from(four[2]);
     }
-    label_at(labels, 14)
+    turned
 }

@@ -17,10 +17,7 @@ fn length_of(b: u64, high: bool) -> u64
     requires { high ≡ false → 1 ≤ b }
     ensures { result ≡ length_of b high }
 {
-    if high {
-        return b;
-    }
-    b - 1
+    if high { b } else { b - 1 }
 }
 
 // The shape of a high or a low frame of a line.
@@ -43,8 +40,10 @@ pub fn shape_of(c: Settings, high: bool) -> Shape
 }
 
 // Room for the bits of any mapping frame: b is at most 79.
+pub const ROOM: [u8; 80] = [0; 80];
+
 pub fn room() -> [u8; 80]
     ensures { length result ≡ 80 }
 {
-    [0; 80]
+    ROOM
 }

@@ -28,7 +28,7 @@ fn third(bits: &[u8], at: usize, three: bool) -> u64
     requires { at + cond three 3 2 ≤ length bits.now }
     ensures { result ≡ cond three (get_or (drop at bits.now) 2 0) 0 }
 {
-    if three { bits[at + 2] as u64 } else { 0 }
+    if three { u64::from(bits[at + 2]) } else { 0 }
 }
 
 // The symbol whose bits start at `at`; `three` says whether it carries I3.
@@ -38,8 +38,8 @@ pub fn symbol_at(bits: &[u8], at: usize, q: usize, three: bool) -> Symbol
 {
     let q_at = at + lead(three);
     Symbol {
-        i1: bits[at] as u64,
-        i2: bits[at + 1] as u64,
+        i1: u64::from(bits[at]),
+        i2: u64::from(bits[at + 1]),
         i3: third(bits, at, three),
         first: value_at(bits, q_at, q),
         second: value_at(bits, q_at + q, q),

@@ -2,7 +2,7 @@
 ghost use Rattle.std.specs.Prelude.{◌≡◌, ◌+◌, ◌*◌, ◌^◌, ◌≤◌, ◌<◌, length};
 ghost use Rattle.laws.specs.Put.{put};
 ghost use Rattle.frame.specs.Requires.{Writable};
-ghost use Rattle.frame.specs.Writing.{four_numbers, labels_written, turn_written};
+ghost use Rattle.frame.specs.Writing.{labels_written, turn_written};
 
 use crate::shape::Shape;
 use crate::symbol::{Symbol, lead, symbol_at, turn};
@@ -12,18 +12,15 @@ fn label(q: usize, ring: u8, low: u64) -> u16
     requires { (q ≤ 5) × (ring < 18) × (low < 2 ^ q) }
     ensures { result ≡ 2 ^ q * ring + low }
 {
-    ((1u64 << q) * ring as u64 + low) as u16
+    ((u64::from(ring) << q) + low) as u16
 }
 
 // Four labels, from `at` on.
-fn put_four(out: &mut [u16], at: usize, a: u16, b: u16, c: u16, d: u16)
+fn put_four(out: &mut [u16], at: usize, four: [u16; 4])
     requires { at + 4 ≤ length out.old }
-    ensures { out.new ≡ put out.old at (four_numbers a b c d) }
+    ensures { out.new ≡ put out.old at four }
 {
-    out[at] = a;
-    out[at + 1] = b;
-    out[at + 2] = c;
-    out[at + 3] = d;
+    out[at..at + 4].copy_from_slice(&four);
 }
 
 // The sixteen labels of a frame with these eight rings, into the part of the output that is lent. It answers Z after the frame.
@@ -35,16 +32,14 @@ pub fn write_frame(shape: Shape, ring: &[u8; 8], z: u64, bits: &[u8], out: &mut 
     let q = shape.uncoded;
     let mut at = shape.shell;
     let mut turned = z;
-    let mut j = 0;
-    while j < 4 {
+    for j in 0..4 {
         let three = j < shape.threes;
         let symbol = symbol_at(bits, at, q, three);
         turned = turn(turned, symbol);
         let first = label(q, ring[2 * j], symbol.first);
         let second = label(q, ring[2 * j + 1], symbol.second);
-        put_four(out, 4 * j, first, second, turned as u16, symbol.i1 as u16);
+        put_four(out, 4 * j, [first, second, turned as u16, symbol.i1 as u16]);
         at += lead(three) + 2 * q;
-        j += 1;
     }
     turned
 }
