@@ -6,7 +6,7 @@ use native.Mathlib.Decide.{dec_lt}
 use native.Mathlib.Omega.{arith}
 use lib.ListN.{length, set, replicate, length-set, length-replicate, get_or-replicate, get_or-eq_default}
 use lib.Seq.{get_or-set_same, get_or-set_other}
-use Rattle.counts.specs.Counts.{at}
+use Rattle.counts.specs.Rows.{at}
 
 -- below p the row says what f does, and from there on 0
 pub record Filled (f : ℕ → ℕ) (n : ℕ) (row : List ℕ) (p : ℕ) : Type 0 where

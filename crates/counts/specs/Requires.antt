@@ -1,7 +1,7 @@
 -- What the workers of this crate ask of their callers. No promise rests on this page: a public entry asks nothing.
 use Rattle.std.specs.Prelude.{List, ℕ, suc, ◌^◌, ◌≤◌, ◌<◌, length}
 use Rattle.listing.specs.Counts.{lighter}
-use Rattle.counts.specs.Counts.{at}
+use Rattle.counts.specs.Rows.{at}
 
 -- what has to hold where the row's products g(p)·g(t − p) are summed over p < b
 pub record Summable (row : List ℕ) (t b : ℕ) : Type 0 where

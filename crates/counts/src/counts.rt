@@ -2,19 +2,11 @@
 ghost use Rattle.std.specs.Prelude.{◌≡◌, ℕ, ◌-◌, ◌≤◌, ◌<◌};
 ghost use Rattle.laws.specs.Sum.{sum};
 ghost use Rattle.listing.specs.Counts.{g2, g4};
-ghost use Rattle.counts.specs.Counts.{at, Known, CountsOf};
+ghost use Rattle.counts.specs.Counts.{CountsOf};
+ghost use Rattle.counts.specs.Rows.{at, Known};
 
+use crate::rows::Counts;
 use crate::table::lighter_row;
-
-// How many pairs and fours of rings below m have each sum, and how many eights are lighter than each weight. A row ends in
-// zeros, so that a sum that is too large counts nothing and no index leaves it.
-#[derive(Clone, Copy)]
-pub struct Counts {
-    pub m: u64,
-    pub pairs: [u64; 69],
-    pub fours: [u64; 137],
-    pub lighter: [u64; 137],
-}
 
 // How many pairs of rings below M have the sum p: p + 1 up to M − 1, then falling by one to 0 at 2M − 1.
 fn pair_count(m: u64, p: u64) -> u64

@@ -9,7 +9,9 @@
 
 pub mod counts;
 pub mod places;
+pub mod rows;
 mod table;
 
-pub use counts::{Counts, counts_of};
+pub use counts::counts_of;
 pub use places::{Located, lighter_sum, locate, locate_weight};
+pub use rows::Counts;

@@ -1,7 +1,7 @@
 // Finding a place among running sums, and the sums themselves.
 ghost use Rattle.std.specs.Prelude.{◌≡◌};
 ghost use Rattle.listing.specs.Counts.{lighter};
-ghost use Rattle.counts.specs.Counts.{at};
+ghost use Rattle.counts.specs.Rows.{at};
 ghost use Rattle.counts.specs.Located.{located_of};
 ghost use Rattle.counts.specs.Requires.{Summable, Locatable, Ascending};
 

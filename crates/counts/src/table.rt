@@ -3,7 +3,7 @@
 // it: `lighter_row` says all that is used.
 ghost use Rattle.std.specs.Prelude.{◌≡◌, ℕ, ◌+◌, ◌*◌, ◌-◌, ◌≤◌, ◌<◌};
 ghost use Rattle.listing.specs.Counts.{z8};
-ghost use Rattle.counts.specs.Counts.{at, Known};
+ghost use Rattle.counts.specs.Rows.{at, Known};
 
 // n numbers of a table from `start` on; what stands beyond is not said. The table is lent: a constant that is indexed is laid out
 // in memory anew each time, so that the loop would write it out in every turn.

@@ -21,8 +21,7 @@ use Rattle.listing.specs.Sets.{Eight, Below8, as_list, of_list}
 use Rattle.listing.specs.Order.{standing}
 use Rattle.listing.specs.Number.{rings_of}
 use Rattle.listing.proofs.Agree.{rings-below, counting_is_listing, standing-is_number}
-use Rattle.rings.specs.Mapping.{Permitted, mapped_rings, map_refusal, map_out, MapAnswer, rank_refusal, ranked_of}
-use Rattle.rings.specs.declared.entry.Ranked.{Ranked}
+use Rattle.rings.specs.Mapping.{Permitted, mapped_rings, map_refusal, map_out, MapAnswer, rank_refusal, Ranked, ranked_of}
 use Rattle.rings.proofs.Acceptance.{mapper_accepts, ranker_accepts}
 use Rattle.rings.proofs.Tests.{is_permitted, below_all, of_list-as_list, as_list-of_list}
 

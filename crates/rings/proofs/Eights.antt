@@ -10,7 +10,6 @@ use lib.ListN.{length}
 use mir.Syntax.{w64}
 use mir.Val.{Fits}
 use Rattle.laws.specs.Largest.{largest}
-use Rattle.laws.specs.Sum.{sum}
 use Rattle.laws.proofs.Largests.{Within, largest-le, largest-within}
 use Rattle.laws.proofs.Rising.{largest_same}
 use Rattle.laws.proofs.Sums.{sum-zero, sum-rises, sum_mono}
@@ -20,7 +19,7 @@ use Rattle.listing.specs.Sets.{Eight, Below8, weight4, weight8, m1, m2, m3, m4, 
 use Rattle.listing.proofs.Agree.{z8-all, heaviest, number-below-all}
 use Rattle.listing.proofs.CountLaws.{g4-ends}
 use Rattle.listing.proofs.Halves.{Halved, halved}
-use Rattle.counts.specs.Counts.{at, Known, EightRows}
+use Rattle.counts.specs.Rows.{at, Known, EightRows}
 use Rattle.counts.specs.Located.{located_of}
 use Rattle.rings.specs.Parts.{halves_of}
 use Rattle.counts.specs.Requires.{Ascending, Summable, Locatable}

@@ -11,7 +11,7 @@ use Rattle.listing.specs.Number.{pair_at, four_at, place_of_pair, place_of_four}
 use Rattle.listing.specs.Sets.{Pair, Four, Below2, Below4, weight2, weight4}
 use Rattle.listing.proofs.Bounds.{g2-bound, lighter-bound, place_of_pair-bound}
 use Rattle.listing.proofs.Halves.{first_weight, rest_of, Halved, halved}
-use Rattle.counts.specs.Counts.{at, Known}
+use Rattle.counts.specs.Rows.{at, Known}
 use Rattle.counts.specs.Located.{located_of}
 use Rattle.counts.specs.Requires.{Locatable, Summable}
 use Rattle.counts.specs.declared.places.Located.{Located}

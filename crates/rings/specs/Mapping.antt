@@ -11,12 +11,13 @@
 --     K    M   S     mapper             K    M   rings              ranker
 --     8    2   255   0, 1 1 1 1 1 1 1 1   12   3   2 2 2 2 2 2 2 2    11, 0
 --     8    2   256   14                  13   3   0 0 0 0 0 0 0 0    13, 0
-use Rattle.std.specs.Prelude.{Bool, true, not, ◌&&◌, cond, List, [], ◌∷◌, ◌++◌, ◌≡◌, ℕ, ◌^◌, ◌≤◌, ◌<◌, leb, ltb, eqb, length}
+use Rattle.std.specs.Prelude.{Result, Ok, Err, Bool, true, not, ◌&&◌, cond, List, [], ◌∷◌, ◌++◌, ◌≡◌, ℕ, ◌^◌, ◌≤◌, ◌<◌, leb, ltb, eqb, length}
 use Rattle.laws.specs.Choice.{refusal}
 use Rattle.listing.specs.Sets.{Eight, Below8, as_list, of_list}
 use Rattle.listing.specs.Order.{standing}
 use Rattle.listing.specs.Number.{rings_of, number}
-use Rattle.rings.specs.declared.entry.Ranked.{Ranked}
+use Rattle.refusals.specs.Numbers.{number as refusal_number}
+use Rattle.refusals.specs.declared.Refusal.{Refusal}
 
 -- the K and M that can be asked for
 pub record Permitted (K M : ℕ) : Type 0 where
@@ -90,6 +91,16 @@ pub record Rankable (K M : ℕ) (rings : List ℕ) : Type 0 where
   pub eight : length rings ≡ 8
   pub below : Below8 M (of_list rings)
   pub low : standing M (of_list rings) < 2 ^ K
+
+-- the ranker's answer: 0 and the number, or the refusal and 0
+pub record Ranked : Type 0 where
+  pub refusal : ℕ
+  pub number : ℕ
+
+-- the same of an outcome
+abbrev pub ranked : Result ℕ Refusal → Ranked
+ranked (Ok place) = record { refusal = 0; number = place }
+ranked (Err reason) = record { refusal = refusal_number reason; number = 0 }
 
 -- the ranker's answer, by the one length that it looks at
 unfoldable pub ranked_of : ℕ → ℕ → List ℕ → Ranked

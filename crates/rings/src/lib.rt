@@ -13,5 +13,5 @@ pub mod four;
 pub mod number;
 pub mod pair;
 
-pub use entry::{Ranked, map, rank};
-pub use number::{Rings, number_of, rings_of};
+pub use entry::{map, rank};
+pub use number::{number_of, rings_of};

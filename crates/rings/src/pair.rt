@@ -2,13 +2,14 @@
 ghost use Rattle.std.specs.Prelude.{◌≡◌, ◌<◌};
 ghost use Rattle.listing.specs.Counts.{g2};
 ghost use Rattle.listing.specs.Number.{pair_at, place_of_pair};
+ghost use Rattle.listing.specs.Sets.{Below2};
 ghost use Rattle.rings.specs.Parts.{pair_of};
-ghost use Rattle.counts.specs.Counts.{Known};
+ghost use Rattle.counts.specs.Rows.{Known};
 
 #[derive(Clone, Copy)]
 pub struct PairOfRings {
-    pub first: u64,
-    pub second: u64,
+    pub first: u8,
+    pub second: u8,
 }
 
 // The pair of sum t at place e.
@@ -19,25 +20,28 @@ pub fn pair_at(m: u64, t: u64, e: u64) -> PairOfRings
 {
     if t < m {
         return PairOfRings {
-            first: e,
-            second: t - e,
+            first: e as u8,
+            second: (t - e) as u8,
         };
     }
     let second = m - 1 - e;
     PairOfRings {
-        first: t - second,
-        second,
+        first: (t - second) as u8,
+        second: second as u8,
     }
 }
 
 // The place of a pair among those of its sum.
-pub fn place_of_pair(m: u64, first: u64, second: u64) -> u64
+pub fn place_of_pair(m: u64, pair: PairOfRings) -> u64
     requires known { Known m }
-    requires first_lt_m { (first < m) × (second < m) }
-    ensures { result ≡ place_of_pair m (first, second) }
+    requires below2 { Below2 m (pair_of pair) }
+    ensures { result ≡ place_of_pair m (pair_of pair) }
 {
+    let first = u64::from(pair.first);
+    let second = u64::from(pair.second);
     if first + second < m {
-        return first;
+        first
+    } else {
+        m - 1 - second
     }
-    m - 1 - second
 }

@@ -1,17 +1,13 @@
 -- `counts::counts::four_row` meets its contract. The loop's invariant: the row has g4 below p, at least its first, and zeros from there
 -- on, and g4 is 0 from 4m − 3 on. Assumes nothing.
-use mathlib.Core.Path.{◌≡◌, refl, sym, ap, ◌∙◌}
-use Prim.Native.Nat.{ℕ, suc, ◌+◌, ◌*◌, ◌-◌, ◌≤◌, ◌<◌}
-use native.Mathlib.Nat.{mul-one}
+use mathlib.Core.Path.{◌≡◌, ap}
+use Prim.Native.Nat.{ℕ, ◌+◌, ◌*◌, ◌-◌, ◌≤◌, ◌<◌}
 use native.Mathlib.Omega.{arith}
 use borrow.Author.Rules.{rules}
-use lib.ListN.{length, replicate, set, length-set}
-use Rattle.laws.specs.Sum.{sum}
 use Rattle.laws.proofs.Sums.{sum-zero, sum-suc}
 use Rattle.listing.specs.Counts.{g2, g4, lighter}
 use Rattle.listing.proofs.CountLaws.{g4-ends}
 use Rattle.listing.proofs.Pairs.{g2-low}
-use Rattle.counts.specs.Counts.{at, Known}
 use Rattle.counts.proofs.Filled.{Filled, filled_none, filled_more, filled-whole}
 use Rattle.counts.proofs.counts.four_row.Statement.{statement}
 use Rattle.counts.proofs.counts.four_row.Tie as tie

@@ -2,15 +2,15 @@
 -- Assumes nothing.
 use mathlib.Core.List.{List}
 use mathlib.Core.Path.{◌≡◌, sym, ap, ap₂, ◌∙◌}
-use Prim.Native.Nat.{ℕ, suc, ◌+◌, ◌*◌, ◌-◌, ◌≤◌, ◌<◌}
+use Prim.Native.Nat.{ℕ, ◌+◌, ◌-◌}
 use native.Mathlib.Numerals.{add-one}
 use native.Mathlib.Omega.{arith}
 use borrow.Author.Rules.{rules}
-use lib.ListN.{length, replicate}
+use lib.ListN.{replicate}
 use Rattle.laws.specs.Sum.{sum}
 use Rattle.laws.proofs.Sums.{sum-zero, sum-suc}
 use Rattle.listing.specs.Counts.{g2}
-use Rattle.counts.specs.Counts.{at}
+use Rattle.counts.specs.Rows.{at}
 use Rattle.counts.proofs.FewPairs.{few-pairs}
 use Rattle.counts.proofs.Filled.{Filled, filled_none, filled_more}
 use Rattle.counts.proofs.counts.pair_sums.Statement.{statement}

@@ -5,7 +5,7 @@ use mathlib.Core.Path.{◌≡◌, ap, ◌∙◌}
 use native.Mathlib.Omega.{arith}
 use Rattle.listing.specs.Counts.{lighter}
 use Rattle.listing.proofs.Bounds.{lighter-zero, lighter-more, lighter-rises}
-use Rattle.counts.specs.Counts.{at}
+use Rattle.counts.specs.Rows.{at}
 use Rattle.counts.proofs.places.lighter_sum.Statement.{statement}
 use Rattle.counts.proofs.places.lighter_sum.Tie as tie
 

@@ -5,7 +5,7 @@ use Prim.Native.Nat.{suc, ◌≤◌, ◌-◌, ◌+◌, ◌*◌}
 use native.Mathlib.Omega.{arith}
 use Rattle.listing.specs.Counts.{lighter}
 use Rattle.listing.proofs.Bounds.{lighter-zero, lighter-more, lighter-rises}
-use Rattle.counts.specs.Counts.{at}
+use Rattle.counts.specs.Rows.{at}
 use Rattle.counts.proofs.Placed.{located-within, located_last}
 use Rattle.counts.proofs.places.locate.Statement.{statement}
 use Rattle.counts.proofs.places.locate.Tie as tie

@@ -2,7 +2,7 @@
 -- Assumes nothing.
 use Prim.Native.Nat.{◌≤◌, ◌-◌}
 use native.Mathlib.Omega.{arith}
-use Rattle.counts.specs.Counts.{at}
+use Rattle.counts.specs.Rows.{at}
 use Rattle.counts.proofs.Placed.{located-rising, located-top}
 use Rattle.counts.proofs.places.locate_weight.Statement.{statement}
 use Rattle.counts.proofs.places.locate_weight.Tie as tie

@@ -8,7 +8,7 @@ use borrow.Author.Rules.{rules}
 use Rattle.laws.proofs.Convolution.{values, times, times_plus, running}
 use Rattle.listing.specs.Counts.{g2, z8}
 use Rattle.listing.proofs.CountLaws.{squared, z8_list}
-use Rattle.counts.specs.Counts.{Known, at}
+use Rattle.counts.specs.Rows.{Known, at}
 use Rattle.counts.proofs.Lighters.{rows, start, length-rows, stands}
 use Rattle.counts.proofs.table.lighter_row.Statement.{statement}
 use Rattle.counts.proofs.table.lighter_row.Tie as tie

@@ -3,7 +3,7 @@ use mathlib.Core.Path.{refl}
 use Prim.Native.Nat.{◌+◌, ◌-◌}
 use native.Mathlib.Omega.{arith}
 use borrow.Author.Rules.{rules}
-use Rattle.counts.specs.Counts.{at}
+use Rattle.counts.specs.Rows.{at}
 use Rattle.counts.proofs.Filled.{Filled, filled_none, filled_more}
 use Rattle.counts.proofs.table.part_of.Statement.{statement}
 use Rattle.counts.proofs.table.part_of.Tie as tie

@@ -1,0 +1,13 @@
+// The counts of an M, as they are kept.
+ghost use Rattle.counts.specs.Rows.{Rows};
+
+// How many pairs and fours of rings below m have each sum, and how many eights are lighter than each weight. A row ends in
+// zeros, so that a sum that is too large counts nothing and no index leaves it. Counts are lent and never copied, since they are 2.7 KB.
+#[derive(Drop)]
+pub struct Counts {
+    pub m: u64,
+    pub pairs: [u64; 69],
+    pub fours: [u64; 137],
+    pub lighter: [u64; 137],
+    pub ghost rows: { Rows m pairs fours lighter },
+}

@@ -1,0 +1,26 @@
+-- `rings::number::rings_of` meets its contract: the two fours at their places are the eight rings. Assumes nothing.
+use mathlib.Core.Path.{◌≡◌, sym, subst, ap, ap₂, ◌∙◌}
+use Prim.Native.Nat.{ℕ, ◌^◌, ◌<◌}
+use Rattle.listing.specs.Sets.{as_list}
+use Rattle.rings.specs.Parts.{halves_of}
+use Rattle.rings.specs.declared.number.Halves.{Halves}
+use Rattle.rings.proofs.Eights.{Halfway, halfway}
+use Rattle.rings.proofs.number.rings_of.Goals as goal
+
+-- what is known of the halves
+known : (m s : ℕ) (below : s < m ^ 8) (h : Halves) → h ≡ halves_of m s → Halfway m s below h
+known m s below h found = subst (Halfway m s below) (sym found) (halfway m s below)
+
+pub four_at-front-requires : goal.four_at-front-requires
+four_at-front-requires c = (known _ _ c.requires _ c.halves_of-h.ensures).first
+
+pub overflow_sub-h : goal.overflow_sub-h
+overflow_sub-h c = (known _ _ c.requires _ c.halves_of-h.ensures).within
+
+pub four_at-back-requires : goal.four_at-back-requires
+four_at-back-requires c = (known _ _ c.requires _ c.halves_of-h.ensures).second
+
+pub returns : goal.returns
+returns c =
+    ap as_list
+    (ap₂ (λ x y. (x, y)) c.four_at-front.ensures c.four_at-back.ensures ∙ sym (known _ _ c.requires _ c.halves_of-h.ensures).whole)
