@@ -35,6 +35,8 @@ high-some N P h p = go (high_of N P) (high-holds N P p)
 pub high-fewer : (N P : ℕ) → 1 ≤ N → 1 ≤ P → (high_of N P - 1) * P < N
 high-fewer N P h p = below-high N P (high_of N P - 1) (omega (arith, high-some N P h p))
 
+pub ruleset steps = (high-some, high-fewer)
+
 -- so b is N over P, rounded up
 pub high_is : (N P : ℕ) → 0 < P → (N + P - 1) / P ≡ high_of N P
 high_is N P h = div-eq_of_lt-le P (fits (high_of N P) (below-high N P)) above

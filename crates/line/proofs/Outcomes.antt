@@ -1,12 +1,30 @@
--- What the work-out's result tells: the settings of the rate that s names where no refusal holds, and otherwise the first refusal.
--- Assumes nothing.
-use mathlib.Core.Path.{◌≡◌, sym, ap, subst, ◌∙◌}
-use Prim.Native.Nat.{◌<◌}
+-- What the work-out's result tells: the settings of the rate that s names where no refusal holds, and otherwise the first refusal. At most
+-- one result fits its contract, since no two refusals have the same number. Assumes nothing.
+use mathlib.Core.Path.{◌≡◌, refl, sym, ap, subst, ◌∙◌}
+use Prim.Native.Nat.{ℕ, ◌<◌}
 use native.Mathlib.Omega.{arith}
 use borrow.Author.Tests.{ne_eqb}
-use Rattle.std.specs.Prelude.{Option, Some}
+use Rattle.std.specs.Prelude.{Option, Some, Result, Ok, Err, List, [], ◌∷◌, get_or}
 use Rattle.refusals.specs.declared.Refusal.{Refusal}
-use Rattle.refusals.specs.declared.Refusal.TheVariants.{UnknownRole}
+use Rattle.refusals.specs.declared.Refusal.TheVariants.{
+  UnknownRole,
+  UnknownRate,
+  DataRateOutOfRange,
+  UnknownShaping,
+  UnstatedMark,
+  DeniedDataRate,
+  UnfitState,
+  WrongLength,
+  NotABit,
+  OutOfRange,
+  UnsentRings,
+  UnsentStep,
+  NotPermitted,
+  NumberTooLarge,
+  WrongPicture,
+  WrongCheck,
+  FieldOutOfRange,
+}
 use Rattle.refusals.specs.Numbers.{number}
 use Rattle.line.specs.declared.asked.Asked.{Asked}
 use Rattle.line.specs.declared.rate.SymbolRate.{SymbolRate}
@@ -14,7 +32,7 @@ use Rattle.line.specs.declared.settings.Settings.{Settings}
 use Rattle.line.specs.Rates.{symbol_rate}
 use Rattle.line.specs.Requires.{InRange}
 use Rattle.line.specs.Settings.{settings_refusal, settings_of, worked_of}
-use Rattle.line.specs.Worked.{Accepted, Refused}
+use Rattle.line.specs.Worked.{Accepted, Refused, told}
 use Rattle.line.proofs.Acceptance.{Within, unrefused_right, unrefused_is, known-accepted}
 use Rattle.line.proofs.Rows.{in-range}
 
@@ -22,6 +40,53 @@ use Rattle.line.proofs.Rows.{in-range}
 numbered : (refusal : Refusal) → 0 < number refusal
 numbered UnknownRole = omega arith
 numbered _ = omega arith
+
+-- the refusals by number; none has 0 or 15, and the first stands for it there
+named : ℕ → Refusal
+named number = get_or names number UnknownRole
+  where
+    names : List Refusal
+    names =
+        UnknownRole
+        ∷ UnknownRole
+        ∷ UnknownRate
+        ∷ DataRateOutOfRange
+        ∷ UnknownShaping
+        ∷ UnstatedMark
+        ∷ DeniedDataRate
+        ∷ UnfitState
+        ∷ WrongLength
+        ∷ NotABit
+        ∷ OutOfRange
+        ∷ UnsentRings
+        ∷ UnsentStep
+        ∷ NotPermitted
+        ∷ NumberTooLarge
+        ∷ UnknownRole
+        ∷ WrongPicture
+        ∷ WrongCheck
+        ∷ FieldOutOfRange
+        ∷ []
+
+named-number : (refusal : Refusal) → named (number refusal) ≡ refusal
+unfolding named
+named-number UnknownRole = refl
+named-number _ = refl
+
+-- so no two have the same
+number_once : (q r : Refusal) → number q ≡ number r → q ≡ r
+number_once q r e = sym (named-number q) ∙ ap named e ∙ named-number r
+
+-- at most one result tells the same
+pub told_once : (v w : Result Settings Refusal) → told v ≡ told w → v ≡ w
+told_once (Ok c) (Ok d) e = cc
+told_once (Ok c) (Err r) e = cc
+told_once (Err q) (Ok d) e = cc
+told_once (Err q) (Err r) e = let same : number q ≡ number r = cc in ap Err (number_once q r same)
+
+-- and so at most one fits the contract
+pub one_result : (asked : Asked) (v w : Result Settings Refusal) → told v ≡ worked_of asked → told w ≡ worked_of asked → v ≡ w
+one_result asked v w p q = told_once v w (p ∙ sym q)
 
 pub refused-told : (asked : Asked) (refusal : Refusal) → number refusal ≡ settings_refusal asked → Refused (number refusal) ≡ worked_of asked
 unfolding worked_of
@@ -37,3 +102,5 @@ module _ (asked : Asked) (rate : SymbolRate) (named : symbol_rate asked.s ≡ So
 
   pub accepted-told : (c : Settings) → c ≡ settings_of asked rate → Accepted c ≡ worked_of asked
   accepted-told c e = ap Accepted e ∙ sym (unrefused_is asked none ∙ known-accepted asked rate named)
+
+pub ruleset outcomes = (refused-told, ranged, accepted-told)

@@ -13,6 +13,7 @@ use borrow.Author.Tests.{leb-true, leb-false, ltb-true, ltb-false, le-leb, lt-lt
 use Rattle.laws.specs.Smallest.{smallest}
 use Rattle.laws.proofs.Largests.{tri}
 use Rattle.laws.proofs.Smallests.{smallest-le, smallest-passes, below-smallest}
+use Rattle.line.proofs.Divisions.{bits-least, bits_most, high-most, uncoded-most, shell_below}
 use Rattle.line.specs.Numbers.{minimum_of, nearest_of, expanded_of}
 use Rattle.line.specs.Settings.{shaping_of, rings_of_shaping}
 use Rattle.line.specs.declared.settings.Shaping.TheVariants as shapings
@@ -123,3 +124,9 @@ rings-permitted shaping K h = go (eqb shaping 0)
     go : (v : Bool) → Permitted K (rings_of_shaping (cond v (shapings.Minimum (minimum_of K)) (shapings.Expanded (expanded_of K))))
     go true = permitted-from K (minimum_of K) h (omega arith) (minimum_most K)
     go false = permitted-from K (expanded_of K) h (expanded_is K).least (expanded_most K)
+
+pub rings-most : (shaping K : ℕ) → K < 32 → rings_of_shaping (shaping_of shaping K) ≤ 18
+rings-most shaping K h = (rings-permitted shaping K h).most
+
+-- what the numbers of a rate in range ask of each other
+pub ruleset bounds = (bits-least, bits_most, high-most, uncoded-most, shell_below, rings-most)

@@ -12,6 +12,7 @@ use borrow.Author.Tests.{leb-true}
 use Rattle.laws.proofs.Tables.{passes_below, at_each}
 use Rattle.line.specs.declared.rate.SymbolRate.{SymbolRate}
 use Rattle.std.specs.Prelude.{Option, Some, None}
+use Rattle.std.proofs.lemmas.Bool.Decides.{nat_tests}
 use Rattle.line.specs.Rates.{rates, row_of, symbol_rate}
 use Rattle.line.specs.Requires.{InRange}
 
@@ -24,9 +25,6 @@ past-rows (row ∷ rows) (suc s) h = past-rows rows s (le_of_suc-le-suc h)
 pub unknown-above : (s : ℕ) → 5 < s → symbol_rate s ≡ None
 unfolding symbol_rate
 unknown-above s h = past-rows rates s h
-
--- what a number in the table, or past it, names
-pub ruleset rows = unknown-above
 
 -- an unknown rate and a known one are not the same
 unlike : (rate : SymbolRate) → None ≡ Some rate → ⊥
@@ -51,6 +49,9 @@ unknown-row (row ∷ rows) (suc s) e = omega (arith, unknown-row rows s e)
 pub above-unknown : (s : ℕ) → symbol_rate s ≡ None → 5 < s
 unfolding symbol_rate
 above-unknown s e = unknown-row rates s e
+
+-- what a number of the table names, and what one past it: `search` takes it for the code's table and its tests
+pub ruleset rows = (nat_tests, unknown-above, known-below, above-unknown)
 
 -- a test of a rate, passed where there is none
 abbrev pub on_known : (SymbolRate → Bool) → Option SymbolRate → Bool

@@ -24,6 +24,7 @@ pub fn high_of(bits: u64, frames: u64) -> u64
 }
 
 // r: what P frames of b − 1 bits leave of N.
+#[tactic(auto, using(crate::proofs::Divisions::steps), unfolding(crate::specs::Numbers::step_of))]
 pub fn step_of(bits: u64, frames: u64, high: u64) -> u64
     requires { (1 ≤ bits) × (1 ≤ frames) × (high ≡ high_of bits frames) }
     ensures { result ≡ step_of bits frames high }
@@ -49,6 +50,7 @@ pub fn shell_of(high: u64, uncoded: u64) -> u64
 }
 
 // L: four points to each of M rings of 2^q.
+#[tactic(auto, using(laws::proofs::Powers::shifted_one), unfolding(crate::specs::Numbers::points_of))]
 pub fn points_of(rings: u64, uncoded: u64) -> u64
     requires { (rings ≤ 18) × (uncoded ≤ 9) }
     ensures { result ≡ points_of rings uncoded }

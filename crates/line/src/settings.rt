@@ -34,7 +34,7 @@ impl Shaping {
 // A checked set of settings, with the numbers that follow from them.
 #[derive(Clone, Copy)]
 pub struct Settings {
-    // the sending end: 0 call modem, 1 answer modem
+    // the sending end: 0 call modem, 1 answer modem; a number, as the scrambler takes any
     pub role: u64,
     // J: data frames in a superframe
     pub superframe: u64,
@@ -63,7 +63,6 @@ impl Settings {
     pub fn values(self) -> [u64; 8]
         ensures { result ≡ values_of (Accepted self) }
     {
-        let rings = self.shaping.rings();
         [
             self.bits,
             self.frames,
@@ -71,7 +70,7 @@ impl Settings {
             self.step,
             self.shell,
             self.uncoded,
-            rings,
+            self.shaping.rings(),
             self.points,
         ]
     }
@@ -89,6 +88,7 @@ fn shaping_of(shaping: u64, k: u64) -> Shaping
 }
 
 // The numbers that follow from what is asked, at the symbol rate that it names.
+#[tactic(auto, using(crate::proofs::Rings::bounds), unfolding(crate::specs::Settings::settings_of))]
 fn settings_of(asked: Asked, rate: SymbolRate) -> Settings
     requires { InRange rate asked.n }
     ensures { result ≡ settings_of asked rate }
@@ -131,6 +131,7 @@ fn is_denied(mark: u64) -> bool
 }
 
 // The symbol rate of what is asked, or the first refusal that holds.
+#[tactic(auto, using(crate::proofs::Rows::rows), unfolding(crate::specs::Settings::settings_refusal, laws::specs::Choice::refusal))]
 fn permitted_rate(asked: Asked) -> Result<SymbolRate, Refusal>
     ensures refused { code result ≡ settings_refusal asked }
     ensures named { IfOk result (λ rate. symbol_rate asked.s ≡ Some rate) }
@@ -157,6 +158,7 @@ fn permitted_rate(asked: Asked) -> Result<SymbolRate, Refusal>
 }
 
 // The settings that are asked for, worked out, or the first refusal that holds.
+#[tactic(auto, using(crate::proofs::Outcomes::outcomes))]
 pub fn work_out(asked: Asked) -> Result<Settings, Refusal>
     ensures { told result ≡ worked_of asked }
 {
