@@ -2,12 +2,11 @@
 -- Assumes nothing.
 use mathlib.Core.List.{List, [], ◌∷◌}
 use mathlib.Core.Path.{◌≡◌, refl, ap, ap₂, ◌∙◌}
-use Prim.Native.Nat.{ℕ, suc, ◌+◌, ◌*◌, ◌%◌, ◌/◌, ◌^◌, ◌≤◌, ◌<◌}
-use native.Mathlib.Nat.{mod-lt}
+use Prim.Native.Nat.{ℕ, suc, ◌^◌, ◌≤◌, ◌<◌}
 use native.Mathlib.Omega.{arith}
 use lib.ListN.{length}
 use Rattle.bits.specs.Digits.{Bits}
-use Rattle.scrambler.specs.Scrambler.{place_back, near_place, scrambled_bit, push, push_all, scramble, descramble}
+use Rattle.scrambler.specs.Scrambler.{place_back, scrambled_bit, push, push_all, scramble, descramble}
 
 -- a place of the register is a bit
 place-bit : (register k : ℕ) → place_back register k ≤ 1

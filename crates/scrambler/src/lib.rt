@@ -6,23 +6,27 @@
 #![tactic(auto)]
 
 ghost use Rattle.std.specs.Prelude.{◌≡◌, ◌≤◌, ◌<◌, ◌^◌};
-ghost use Rattle.scrambler.specs.Parts.{Scrambled, Descrambled};
+ghost use Rattle.scrambler.specs.Parts.{Scrambled, Descrambled, Passed};
 ghost use Rattle.scrambler.specs.Requires.{Part};
 ghost use Rattle.scrambler.specs.Scrambler.{scrambled_bit, push};
 
 // The scrambled bit for a bit, or the bit for a scrambled bit: the two are one sum.
+#[tactic(auto, unfolding(crate::specs::Scrambler::scrambled_bit, crate::specs::Scrambler::place_back, crate::specs::Scrambler::near_place))]
 pub fn through(role: u64, register: u64, bit: u64) -> u64
     requires { bit ≤ 1 }
     ensures { result ≡ scrambled_bit role register bit }
 {
-    let far = register / 4194304 % 2;
-    if role == 0 {
-        return (bit + register / 131072 % 2 + far) % 2;
-    }
-    (bit + register / 16 % 2 + far) % 2
+    let near = if role == 0 {
+        register / 131072
+    } else {
+        register / 16
+    };
+    let far = register / 4194304;
+    (bit + near % 2 + far % 2) % 2
 }
 
 // The register after one more scrambled bit.
+#[tactic(auto, unfolding(crate::specs::Scrambler::push))]
 pub fn pushed(register: u64, bit: u64) -> u64
     requires { (register < 2 ^ 23) × (bit ≤ 1) }
     ensures { result ≡ push register bit }
@@ -30,34 +34,34 @@ pub fn pushed(register: u64, bit: u64) -> u64
     (2 * register + bit) % 8388608
 }
 
+// The sums for a slice of bits, at the start of `out`, and the register after them: it takes the sums, or on the way back what was
+// received. `out` is written by its index, since of what a zip with `iter_mut` writes nothing is known.
+fn pass<const BACK: bool>(role: u64, register: u64, bits: &[u8], out: &mut [u8]) -> u64
+    requires { Part register bits.now out.old }
+    ensures { Passed BACK role register bits.now out.old result out.new }
+{
+    let mut held = register;
+    for (i, bit) in bits.iter().enumerate() {
+        let bit = u64::from(*bit);
+        let sum = through(role, held, bit);
+        out[i] = sum as u8;
+        held = pushed(held, if BACK { bit } else { sum });
+    }
+    held
+}
+
 // The scrambled bits for a slice of bits, at the start of `out`, and the register after them.
 pub fn scramble_part(role: u64, register: u64, bits: &[u8], out: &mut [u8]) -> u64
     requires { Part register bits.now out.old }
     ensures { Scrambled role register bits.now out.old result out.new }
 {
-    let mut held = register;
-    let mut i = 0;
-    while i < bits.len() {
-        let bit = through(role, held, bits[i] as u64);
-        out[i] = bit as u8;
-        held = pushed(held, bit);
-        i += 1;
-    }
-    held
+    pass::<false>(role, register, bits, out)
 }
 
-// The bits for a slice of scrambled bits, at the start of `bits`, and the register after them: it takes what was received.
+// The bits for a slice of scrambled bits, at the start of `bits`, and the register after them.
 pub fn descramble_part(role: u64, register: u64, outs: &[u8], bits: &mut [u8]) -> u64
     requires { Part register outs.now bits.old }
     ensures { Descrambled role register outs.now bits.old result bits.new }
 {
-    let mut held = register;
-    let mut i = 0;
-    while i < outs.len() {
-        let out = outs[i] as u64;
-        bits[i] = through(role, held, out) as u8;
-        held = pushed(held, out);
-        i += 1;
-    }
-    held
+    pass::<true>(role, register, outs, bits)
 }
