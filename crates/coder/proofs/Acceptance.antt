@@ -17,12 +17,11 @@ use Rattle.line.specs.Worked.{Worked, Accepted, Refused}
 use Rattle.line.proofs.Acceptance.{refused-some}
 use Rattle.line.proofs.Soundness.{Sound, accepted-sound}
 use Rattle.coder.specs.declared.states.State.{State}
-use Rattle.coder.specs.declared.states.Coded.{Coded}
 use Rattle.coder.specs.State.{worked_in, unfit}
 use Rattle.coder.specs.Receiving.{receiving_of, all_in_range, numbers_fit, all_steps_fit}
 use Rattle.bits.specs.Digits.{all_bits}
 use Rattle.bits.proofs.Tested.{all-bits, bits-all}
-use Rattle.coder.specs.Answers.{exact, write_refusal, read_refusal, refused_with, written, received}
+use Rattle.coder.specs.Answers.{Answer, exact, write_refusal, read_refusal, refused_with, written, received}
 use Rattle.coder.specs.Answers.{written_of, read_of, Sendable, Receivable}
 
 -- The tests, and what they say.
@@ -52,12 +51,12 @@ pub settings-sound : (st : State) (c : Settings) → worked_in st ≡ Accepted c
 settings-sound st c = accepted-sound st.asked c
 
 -- the answer where the refusal is `number`, and `done` where there is none
-abbrev pub answer_at : ℕ → Coded → State → Coded
+abbrev pub answer_at : ℕ → Answer → State → Answer
 answer_at number done st = cond (eqb number 0) done (refused_with number st)
 
 -- a refused answer holds the state as it was given
 kept-state :
-    (number : ℕ) (done : Coded) (st : State) → (number ≡ 0 → done.refusal ≡ 0) → ((answer_at number done st).refusal ≡ 0 → ⊥)
+    (number : ℕ) (done : Answer) (st : State) → (number ≡ 0 → done.refusal ≡ 0) → ((answer_at number done st).refusal ≡ 0 → ⊥)
     → (answer_at number done st).state ≡ st
 kept-state number done st zero some = go (eqb number 0) refl some
   where
@@ -67,7 +66,7 @@ kept-state number done st zero some = go (eqb number 0) refl some
     go true f g = absurd (g (zero (eqb-true number 0 f)))
     go false f g = refl
 
-zero-given : (number : ℕ) (done : Coded) (st : State) → (answer_at number done st).refusal ≡ 0 → number ≡ 0
+zero-given : (number : ℕ) (done : Answer) (st : State) → (answer_at number done st).refusal ≡ 0 → number ≡ 0
 zero-given number done st e = go (eqb number 0) refl e
   where
     go : (v : Bool) → eqb number 0 ≡ v → (cond v done (refused_with number st)).refusal ≡ 0 → number ≡ 0
@@ -191,17 +190,17 @@ module _ (st : State) (labels bits : List ℕ) where
 -- Accepted exactly then.
 pub writer-accepts :
     (st : State) (bits out : List ℕ) → ((written_of st bits (length out)).refusal ≡ 0) ↔ ((c : Settings) × Sendable st c bits out)
-writer-accepts st bits out = (written_sendable st bits out, λ p. ap (λ (r : Coded). r.refusal) (sends st bits out p.0 p.1))
+writer-accepts st bits out = (written_sendable st bits out, λ p. ap (λ (r : Answer). r.refusal) (sends st bits out p.0 p.1))
 
 pub reader-accepts :
     (st : State) (labels bits : List ℕ)
     → ((read_of st labels (length bits)).refusal ≡ 0) ↔ ((c : Settings) × Receivable st c labels bits)
 reader-accepts st labels bits =
-    (read_receivable st labels bits, λ p. ap (λ (r : Coded). r.refusal) (receives st labels bits p.0 p.1))
+    (read_receivable st labels bits, λ p. ap (λ (r : Answer). r.refusal) (receives st labels bits p.0 p.1))
 
 -- Acceptance: with settings accepted, register and Z fit, exact lengths and bytes of 0 or 1 the writer answers 0, and N is the number of
 -- bits.
-pub record Taken (c : Settings) (bits : List ℕ) (r : Coded) : Type 0 where
+pub record Taken (c : Settings) (bits : List ℕ) (r : Answer) : Type 0 where
   pub done : r.refusal ≡ 0
   pub number : r.bits ≡ c.bits
   pub consumed : r.bits ≡ length bits
@@ -212,7 +211,7 @@ pub acceptance :
     → length bits ≡ c.user → length out ≡ 16 * c.frames → Bits bits
     → Taken c bits (written_of st bits (length out))
 acceptance st c bits out worked held turn size room binary =
-    record { done = ap (λ (r : Coded). r.refusal) e; number = number; consumed = number ∙ sym (size ∙ all_user) }
+    record { done = ap (λ (r : Answer). r.refusal) e; number = number; consumed = number ∙ sym (size ∙ all_user) }
   where
     e : written_of st bits (length out) ≡ written (Accepted c) st bits
     e = sends st bits out c (record { worked = worked; held = held; turn = turn; binary = binary; size = size; labels = room })
@@ -221,4 +220,4 @@ acceptance st c bits out worked held turn size room binary =
     all_user = (settings-sound st c worked).user_is
 
     number : (written_of st bits (length out)).bits ≡ c.bits
-    number = ap (λ (r : Coded). r.bits) e
+    number = ap (λ (r : Answer). r.bits) e

@@ -9,9 +9,8 @@ use lib.ListN.{length, replicate, length-replicate}
 use Rattle.line.specs.declared.settings.Settings.{Settings}
 use Rattle.line.specs.Worked.{Accepted}
 use Rattle.coder.specs.declared.states.State.{State}
-use Rattle.coder.specs.declared.states.Coded.{Coded}
 use Rattle.coder.specs.State.{worked_in}
-use Rattle.coder.specs.Answers.{coded, written, received, labels_of, bits_of, written_of, labels_after, read_of, bits_after}
+use Rattle.coder.specs.Answers.{Answer, coded, written, received, labels_of, bits_of, written_of, labels_after, read_of, bits_after}
 use Rattle.coder.specs.Answers.{Sendable, Receivable}
 use Rattle.coder.proofs.Sent.{Sent, sent}
 use Rattle.coder.proofs.Received.{Received, all-received}
@@ -66,13 +65,13 @@ module _ (st : State) (c : Settings) (bits out : List ℕ) (w : Sendable st c bi
 
   -- the next state has the same settings, and is fit
   pub next-worked : worked_in (written_of st bits (length out)).state ≡ Accepted c
-  next-worked = ap (λ (r : Coded). worked_in r.state) (sends st bits out c w) ∙ w.worked
+  next-worked = ap (λ (r : Answer). worked_in r.state) (sends st bits out c w) ∙ w.worked
 
   pub next-held : (written_of st bits (length out)).state.register < 2 ^ 23
-  next-held = subst (λ (r : Coded). r.state.register < 2 ^ 23) (sym (sends st bits out c w)) sent_data.register-below
+  next-held = subst (λ (r : Answer). r.state.register < 2 ^ 23) (sym (sends st bits out c w)) sent_data.register-below
 
   pub next-turn : (written_of st bits (length out)).state.z ≤ 3
-  next-turn = subst (λ (r : Coded). r.state.z ≤ 3) (sym (sends st bits out c w)) sent_data.turn-most
+  next-turn = subst (λ (r : Answer). r.state.z ≤ 3) (sym (sends st bits out c w)) sent_data.turn-most
 
 -- for every state, bits and buffers
 pub reading-back :
@@ -152,12 +151,12 @@ reads_what_is_written st labels = (forth, back)
     forth : ReadFrom st labels → WrittenFrom st labels
     forth p =
         let b = writing-back st labels p.0 zeros p.1 (length-replicate {A = ℕ} (length labels) 0) in
-        (bits_after st labels p.0, zeros, ap (λ (r : Coded). r.refusal) b.answer ∙ p.1, b.labels-back)
+        (bits_after st labels p.0, zeros, ap (λ (r : Answer). r.refusal) b.answer ∙ p.1, b.labels-back)
 
     back : WrittenFrom st labels → ReadFrom st labels
     back p =
         let b = reading-back st p.0 p.1 p.0 p.2 refl in
-        (p.0, subst (λ (l : List ℕ). (read_of st l (length p.0)).refusal ≡ 0) p.3 (ap (λ (r : Coded). r.refusal) b.answer ∙ p.2))
+        (p.0, subst (λ (l : List ℕ). (read_of st l (length p.0)).refusal ≡ 0) p.3 (ap (λ (r : Answer). r.refusal) b.answer ∙ p.2))
 
 -- What the lent buffers then hold: the labels of the bits, and the bits of the labels.
 pub sends-labels :

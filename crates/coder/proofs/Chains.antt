@@ -10,9 +10,8 @@ use Rattle.laws.specs.Lists.{Every}
 use Rattle.line.specs.declared.settings.Settings.{Settings}
 use Rattle.line.specs.Worked.{Accepted}
 use Rattle.coder.specs.declared.states.State.{State}
-use Rattle.coder.specs.declared.states.Coded.{Coded}
 use Rattle.coder.specs.State.{worked_in}
-use Rattle.coder.specs.Answers.{Sendable}
+use Rattle.coder.specs.Answers.{Answer, Sendable}
 use Rattle.coder.specs.Chain.{Call, Direction, writing, reading, buffers_in_turn, last_state, AllAccepted, calls_of, AsLong}
 use Rattle.coder.proofs.Acceptance.{writer-accepts}
 use Rattle.coder.proofs.Back.{next-worked, next-held, next-turn, reading-back, writing-back}
@@ -78,11 +77,11 @@ module _ (one other : Direction) (undone : Undoes one other) where
       go later =
           record {
             accepted = (
-              ap (λ (r : Coded). r.refusal) u.same ∙ done.0,
-              subst (λ (r : Coded). AllAccepted other r.state rest) (sym u.same) later.accepted,
+              ap (λ (r : Answer). r.refusal) u.same ∙ done.0,
+              subst (λ (r : Answer). AllAccepted other r.state rest) (sym u.same) later.accepted,
             );
-            back = ap₂ ◌∷◌ u.back (ap (λ (r : Coded). buffers_in_turn other r.state rest) u.same ∙ later.back);
-            last = ap (λ (r : Coded). last_state other r.state rest) u.same ∙ later.last;
+            back = ap₂ ◌∷◌ u.back (ap (λ (r : Answer). buffers_in_turn other r.state rest) u.same ∙ later.back);
+            last = ap (λ (r : Answer). last_state other r.state rest) u.same ∙ later.last;
           }
 
 -- reading all that was written

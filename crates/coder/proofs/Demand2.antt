@@ -21,7 +21,7 @@ use Rattle.frame.specs.Writing.{frame_labels}
 use Rattle.scrambler.specs.Scrambler.{scramble}
 use Rattle.scrambler.proofs.Fronts.{take-scramble}
 use Rattle.coder.specs.declared.states.State.{State}
-use Rattle.coder.specs.declared.states.Coded.{Coded}
+use Rattle.coder.specs.Answers.{Answer}
 use Rattle.coder.specs.State.{worked_in}
 use Rattle.frame.specs.Next.{high_next, shape_next, length_next}
 use Rattle.coder.specs.Sending.{ring_count, next_labels, after_labels, sending_of, data_labels}
@@ -155,7 +155,7 @@ module _ (st : State) (c : Settings) (fit : Fit st) (worked : worked_in st ≡ A
     pub reader-takes-some : ((call : Call) → (reader.answer st call).refusal ≡ 0 → ⊥) → ⊥
     reader-takes-some refuses =
         let u = back 0 (omega arith) in
-        refuses (again writer st (frame 0) space) (ap (λ (r : Coded). r.refusal) u.same ∙ accepted 0 (omega arith))
+        refuses (again writer st (frame 0) space) (ap (λ (r : Answer). r.refusal) u.same ∙ accepted 0 (omega arith))
 
     -- the two data frames come back, so that what is read for the one is not what is read for the other
     never_same : reader.buffer st (again writer st (frame 0) space) ≡ reader.buffer st (again writer st (frame 1) space) → ⊥

@@ -15,9 +15,8 @@ use Rattle.frame.specs.Reading.{frame_read_turned}
 use Rattle.scrambler.specs.Scrambler.{place_back, scramble}
 use Rattle.scrambler.proofs.Register.{holds_last}
 use Rattle.coder.specs.declared.states.State.{State}
-use Rattle.coder.specs.declared.states.Coded.{Coded}
 use Rattle.coder.specs.Receiving.{Receiving, after_bits, receiving_of, data_received, data_bits, data_read_register, data_read_turned}
-use Rattle.coder.specs.Answers.{written_of, labels_after, read_of, Receivable}
+use Rattle.coder.specs.Answers.{Answer, written_of, labels_after, read_of, Receivable}
 use Rattle.coder.proofs.Received.{Received}
 use Rattle.coder.proofs.Acceptance.{settings-sound, receives, read_receivable}
 use Rattle.coder.proofs.Back.{decoded, reading-back}
@@ -39,7 +38,7 @@ module _ (st : State) (c : Settings) (labels bits : List ℕ) (r : Receivable st
       → place_back (read_of st labels (length bits)).state.register k ≡ get_or (data_received c st.z labels) (c.bits - k) 0
   unfolding data_read_register
   register-holds k from to =
-      ap (λ (a : Coded). place_back a.state.register k) (receives st labels bits c r)
+      ap (λ (a : Answer). place_back a.state.register k) (receives st labels bits c r)
       ∙ (holds_last st.register (data_received c st.z labels) k d.received-binary from to enough
       ∙ ap (λ (n : ℕ). get_or (data_received c st.z labels) (n - k) 0) d.received-size)
     where
@@ -74,7 +73,7 @@ read-z st labels bits done =
     let few = (settings-sound st c r.worked).frames-least in
     let frames : c.frames ≡ suc (c.frames - 1) = omega (arith, few) in
     let place : 16 * (c.frames - 1) + 14 ≡ length labels - 2 = omega (arith, r.count, few) in
-    ap (λ (a : Coded). a.state.z) (receives st labels bits c r)
+    ap (λ (a : Answer). a.state.z) (receives st labels bits c r)
     ∙ (ap (λ (n : ℕ). (iter (after_bits c) n (receiving_of st.z labels)).z) frames
     ∙ (turned_last c (c.frames - 1) (receiving_of st.z labels) ∙ ap (λ (i : ℕ). get_or labels i 0) place))
 
@@ -84,5 +83,5 @@ pub written-z :
     → (written_of st bits (length out)).state.z ≡ last_z (labels_after st bits out)
 written-z st bits out done =
     let back = (reading-back st bits out bits done refl).answer in
-    ap (λ (a : Coded). a.state.z) (sym back)
-    ∙ read-z st (labels_after st bits out) bits (ap (λ (a : Coded). a.refusal) back ∙ done)
+    ap (λ (a : Answer). a.state.z) (sym back)
+    ∙ read-z st (labels_after st bits out) bits (ap (λ (a : Answer). a.refusal) back ∙ done)

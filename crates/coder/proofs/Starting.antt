@@ -17,10 +17,8 @@ use Rattle.line.specs.declared.settings.Settings.{Settings}
 use Rattle.line.specs.Worked.{Worked, Accepted, Refused}
 use Rattle.line.proofs.Acceptance.{Right, accepted-when, refused-some}
 use Rattle.coder.specs.declared.states.State.{State}
-use Rattle.coder.specs.declared.states.Started.{Started}
-use Rattle.coder.specs.declared.states.Coded.{Coded}
-use Rattle.coder.specs.State.{state_of, worked_in, unfit, state_refusal_of, started_of, short_started_of}
-use Rattle.coder.specs.Answers.{written_of, read_of, bits_after}
+use Rattle.coder.specs.State.{Started, state_of, worked_in, unfit, state_refusal_of, started_of, short_started_of}
+use Rattle.coder.specs.Answers.{Answer, written_of, read_of, bits_after}
 use Rattle.coder.proofs.Acceptance.{Taken, fit-passes, passes-fit, acceptance, written_sendable}
 use Rattle.coder.proofs.Acceptance.{refused-keeps, refused-read-keeps}
 use Rattle.coder.proofs.Back.{next-worked, next-held, next-turn, writing-back}
@@ -127,6 +125,6 @@ read_stays st labels bits fit = go (eqb (read_of st labels (length bits)).refusa
     go true e =
         let done = eqb-true (read_of st labels (length bits)).refusal 0 e in
         let same = (writing-back st labels bits space done (length-replicate {A = ℕ} (length labels) 0)).answer in
-        subst (λ (x : Coded). Fit x.state) same
-        (written-fit st (bits_after st labels bits) space (ap (λ (x : Coded). x.refusal) same ∙ done))
+        subst (λ (x : Answer). Fit x.state) same
+        (written-fit st (bits_after st labels bits) space (ap (λ (x : Answer). x.refusal) same ∙ done))
     go false e = subst Fit (sym (refused-read-keeps st labels bits (eqb-false _ 0 e))) fit

@@ -1,57 +1,111 @@
--- The ways out of writer and reader: the settings are refused, a later test refuses, or the data frame is coded. Said once for both, as
--- the answer and the lent buffer go by the number of the refusal in the same way. Assumes nothing.
-use mathlib.Core.Bool.{cond}
+-- The ways out of the starts, the writer and the reader: the settings are refused, a later test refuses, or the call is done. Assumes
+-- nothing.
+use mathlib.Core.Bool.{true, false, cond}
 use mathlib.Core.List.{List}
-use mathlib.Core.Path.{◌≡◌, ◌∙◌}
-use Prim.Native.Nat.{ℕ}
+use mathlib.Core.Path.{◌≡◌, refl, ◌∙◌}
+use Prim.Native.Nat.{ℕ, ◌<◌}
+use native.Mathlib.Omega.{arith}
 use lib.Dec.{eqb}
 use lib.ListN.{length}
 use borrow.Author.Tests.{ne_eqb}
-use Rattle.line.specs.Worked.{Worked, Refused}
-use Rattle.line.proofs.Acceptance.{refused-some}
+use Rattle.std.specs.Prelude.{Ok, Err}
+use Rattle.laws.specs.Choice.{refusal}
+use Rattle.refusals.specs.declared.Refusal.{Refusal}
+use Rattle.refusals.specs.declared.Refusal.TheVariants.{UnknownRole, UnfitState}
+use Rattle.refusals.specs.Numbers.{number}
+use Rattle.line.specs.declared.settings.Settings.{Settings}
+use Rattle.line.specs.Worked.{Worked, Accepted, Refused}
 use Rattle.coder.specs.declared.states.State.{State}
-use Rattle.coder.specs.declared.states.Coded.{Coded}
-use Rattle.coder.specs.State.{worked_in}
-use Rattle.coder.specs.Answers.{refused_with, write_refusal, read_refusal, written, received, labels_of, bits_of}
+use Rattle.coder.specs.State.{worked_in, unfit, started, started_of}
+use Rattle.coder.specs.Answers.{Answer, answered, write_refusal, read_refusal, written, received, labels_of, bits_of}
 use Rattle.coder.specs.Answers.{written_of, labels_after, read_of, bits_after, WriteAnswer, ReadAnswer}
 use Rattle.coder.proofs.Acceptance.{answer_at}
 
--- The number of the refusal, and what is answered and made where there is none, each from the settings as they were worked out.
-module _ (st : State) (number : Worked → ℕ) (done : Worked → Coded) (made : Worked → List ℕ) (lent : List ℕ) where
-  pub record WayOut (r : Coded) (after : List ℕ) : Type 0 where
-    pub answer : r ≡ answer_at (number (worked_in st)) (done (worked_in st)) st
-    pub buffer : after ≡ cond (eqb (number (worked_in st)) 0) (made (worked_in st)) lent
+-- no refusal has the number 0
+numbered : (why : Refusal) → 0 < number why
+numbered UnknownRole = omega arith
+numbered _ = omega arith
 
-  -- refused
-  pub refused-way : (w : Worked) (n : ℕ) → worked_in st ≡ w → n ≡ number w → (n ≡ 0 → ⊥) → WayOut (refused_with n st) lent
-  refused-way w n worked is_number some =
-      let e = ne_eqb n 0 some in
-      record { answer = rw (worked, ← is_number, e); buffer = rw (worked, ← is_number, e) }
+some : (why : Refusal) → eqb (number why) 0 ≡ false
+some why = ne_eqb (number why) 0 (λ z. omega (arith, numbered why))
 
-  -- by the settings
-  pub settings-way : (n : ℕ) → worked_in st ≡ Refused n → n ≡ number (Refused n) → WayOut (refused_with n st) lent
-  settings-way n worked is_number = refused-way (Refused n) n worked is_number (refused-some st.asked n worked)
+-- A start.
+module _ (st : State) where
+  pub start-refused : (why : Refusal) → Refused (number why) ≡ worked_in st → started (Err why) ≡ started_of st
+  unfolding started_of
+  start-refused why worked = rw (← worked, some why)
 
-  -- not refused
-  pub coded-way :
-      (w : Worked) (r : Coded) (after : List ℕ) → worked_in st ≡ w → number w ≡ 0 → r ≡ done w → after ≡ made w → WayOut r after
-  coded-way w r after worked none is-done is_made =
-      record { answer = is-done ∙ rw (worked, none); buffer = is_made ∙ rw (worked, none) }
+  module _ (c : Settings) (worked : Accepted c ≡ worked_in st) where
+    pub start-unfit : unfit st ≡ true → started (Err UnfitState) ≡ started_of st
+    unfolding started_of refusal
+    start-unfit u = rw (← worked, u)
+
+    pub start-done : unfit st ≡ false → started (Ok st) ≡ started_of st
+    unfolding started_of refusal
+    start-done u = rw (← worked, u)
+
+-- What writer and reader have in common: the number of the refusal, and what is answered and made where there is none, each from the
+-- settings as they were worked out.
+module _ (st : State) (refuses : Worked → ℕ) (done : Worked → Answer) (made : Worked → List ℕ) (lent : List ℕ) where
+  record WayOut (r : Answer) (after : List ℕ) : Type 0 where
+    answer : r ≡ answer_at (refuses (worked_in st)) (done (worked_in st)) st
+    buffer : after ≡ cond (eqb (refuses (worked_in st)) 0) (made (worked_in st)) lent
+
+  refused-way : (w : Worked) (why : Refusal) → w ≡ worked_in st → number why ≡ refuses w → WayOut (answered st (Err why)) lent
+  refused-way w why worked is_number =
+      record { answer = rw (← worked, ← is_number, some why); buffer = rw (← worked, ← is_number, some why) }
+
+  done-way :
+      (w : Worked) (r : Answer) (after : List ℕ) → w ≡ worked_in st → refuses w ≡ 0 → r ≡ done w → after ≡ made w → WayOut r after
+  done-way w r after worked none is-done is_made =
+      record { answer = is-done ∙ rw (← worked, none); buffer = is_made ∙ rw (← worked, none) }
 
 -- The writer's.
 module _ (st : State) (bits out : List ℕ) where
-  pub writes-out :
-      (r : Coded) (after : List ℕ)
-      → WayOut st (λ w. write_refusal w st bits (length out)) (λ w. written w st bits) (λ w. labels_of w st bits) out r after
-      → WriteAnswer st bits out r after
+  abbrev WritesOut : Answer → List ℕ → Type 0
+  WritesOut = WayOut st (λ w. write_refusal w st bits (length out)) (λ w. written w st bits) (λ w. labels_of w st bits) out
+
+  writes-out : (r : Answer) (after : List ℕ) → WritesOut r after → WriteAnswer st bits out r after
   unfolding written_of labels_after
   writes-out r after way = record { answer = way.answer; buffer = way.buffer }
 
+  pub write-unsettled : (why : Refusal) → Refused (number why) ≡ worked_in st → WriteAnswer st bits out (answered st (Err why)) out
+  write-unsettled why worked = writes-out _ _ (refused-way st _ _ _ out (Refused (number why)) why worked refl)
+
+  module _ (c : Settings) (worked : Accepted c ≡ worked_in st) where
+    pub write-refused :
+        (why : Refusal) → number why ≡ write_refusal (Accepted c) st bits (length out) → WriteAnswer st bits out (answered st (Err why)) out
+    write-refused why is_number = writes-out _ _ (refused-way st _ _ _ out (Accepted c) why worked is_number)
+
+    pub write-done :
+        (r : Answer) (after : List ℕ)
+        → write_refusal (Accepted c) st bits (length out) ≡ 0
+        → r ≡ written (Accepted c) st bits
+        → after ≡ labels_of (Accepted c) st bits
+        → WriteAnswer st bits out r after
+    write-done r after none is-done is_made = writes-out r after (done-way st _ _ _ out (Accepted c) r after worked none is-done is_made)
+
 -- The reader's.
 module _ (st : State) (labels bits : List ℕ) where
-  pub reads-out :
-      (r : Coded) (after : List ℕ)
-      → WayOut st (λ w. read_refusal w st labels (length bits)) (λ w. received w st labels) (λ w. bits_of w st labels) bits r after
-      → ReadAnswer st labels bits r after
+  abbrev ReadsOut : Answer → List ℕ → Type 0
+  ReadsOut = WayOut st (λ w. read_refusal w st labels (length bits)) (λ w. received w st labels) (λ w. bits_of w st labels) bits
+
+  reads-out : (r : Answer) (after : List ℕ) → ReadsOut r after → ReadAnswer st labels bits r after
   unfolding read_of bits_after
   reads-out r after way = record { answer = way.answer; buffer = way.buffer }
+
+  pub read-unsettled : (why : Refusal) → Refused (number why) ≡ worked_in st → ReadAnswer st labels bits (answered st (Err why)) bits
+  read-unsettled why worked = reads-out _ _ (refused-way st _ _ _ bits (Refused (number why)) why worked refl)
+
+  module _ (c : Settings) (worked : Accepted c ≡ worked_in st) where
+    pub read-refused :
+        (why : Refusal) → number why ≡ read_refusal (Accepted c) st labels (length bits) → ReadAnswer st labels bits (answered st (Err why)) bits
+    read-refused why is_number = reads-out _ _ (refused-way st _ _ _ bits (Accepted c) why worked is_number)
+
+    pub read-done :
+        (r : Answer) (after : List ℕ)
+        → read_refusal (Accepted c) st labels (length bits) ≡ 0
+        → r ≡ received (Accepted c) st labels
+        → after ≡ bits_of (Accepted c) st labels
+        → ReadAnswer st labels bits r after
+    read-done r after none is-done is_made = reads-out r after (done-way st _ _ _ bits (Accepted c) r after worked none is-done is_made)

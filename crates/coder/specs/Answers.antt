@@ -7,7 +7,9 @@
 --
 -- A refused call answers its number, 0 bits and the state exactly as given, and every lent buffer is as it was. A success answers 0, N and
 -- the next state.
-use Rattle.std.specs.Prelude.{Bool, true, not, ◌&&◌, cond, List, [], ◌∷◌, ◌≡◌, ℕ, ◌*◌, ◌^◌, ◌≤◌, ◌<◌, eqb, length}
+use Rattle.std.specs.Prelude.{Bool, true, not, ◌&&◌, cond, List, [], ◌∷◌, ◌≡◌, ℕ, ◌*◌, ◌^◌, ◌≤◌, ◌<◌, eqb, length, Result, Ok, Err}
+use Rattle.refusals.specs.declared.Refusal.{Refusal}
+use Rattle.refusals.specs.Numbers.{number}
 use Rattle.laws.specs.Choice.{refusal}
 use Rattle.bits.specs.Digits.{Bits, all_bits}
 use Rattle.line.specs.declared.settings.Settings.{Settings}
@@ -52,20 +54,32 @@ read_refusal (Accepted c) st labels lent = refusal (read_tests c st labels (exac
 abbrev pub moved_on : State → ℕ → ℕ → State
 moved_on st register z = state_of st.asked register z
 
+-- what the writer and the reader answer: the refusal number, 0 where the data frame is coded, its bits, and the next state; after a
+-- refusal 0 bits and the state as it was given
+pub record Answer : Type 0 where
+  pub refusal : ℕ
+  pub bits : ℕ
+  pub state : State
+
 -- a coded data frame: N bits, and the state moved on
-abbrev pub coded : Settings → State → ℕ → ℕ → Coded
+abbrev pub coded : Settings → State → ℕ → ℕ → Answer
 coded c st register z = record { refusal = 0; bits = c.bits; state = moved_on st register z }
 
 -- a refused call: its number, 0 bits, and the state as it was given
-abbrev pub refused_with : ℕ → State → Coded
+abbrev pub refused_with : ℕ → State → Answer
 refused_with number st = record { refusal = number; bits = 0; state = st }
 
+-- what the code's result tells of an answer, the state st being given
+abbrev pub answered : State → Result Coded Refusal → Answer
+answered st (Ok coded) = record { refusal = 0; bits = coded.bits; state = coded.state }
+answered st (Err refusal) = refused_with (number refusal) st
+
 -- what a call answers that is not refused
-abbrev pub written : Worked → State → List ℕ → Coded
+abbrev pub written : Worked → State → List ℕ → Answer
 written (Refused number) st bits = refused_with number st
 written (Accepted c) st bits = coded c st (data_register c st.register bits) (data_turned c st.register st.z bits)
 
-abbrev pub received : Worked → State → List ℕ → Coded
+abbrev pub received : Worked → State → List ℕ → Answer
 received (Refused number) st labels = refused_with number st
 received (Accepted c) st labels = coded c st (data_read_register c st.register st.z labels) (data_read_turned c st.z labels)
 
@@ -78,7 +92,7 @@ bits_of (Refused number) st labels = []
 bits_of (Accepted c) st labels = data_bits c st.register st.z labels
 
 -- what the writer answers, and what the lent labels are after the call
-unfoldable pub written_of : State → List ℕ → ℕ → Coded
+unfoldable pub written_of : State → List ℕ → ℕ → Answer
 written_of st bits lent =
     let number = write_refusal (worked_in st) st bits lent in
     cond (eqb number 0) (written (worked_in st) st bits) (refused_with number st)
@@ -87,7 +101,7 @@ unfoldable pub labels_after : State → List ℕ → List ℕ → List ℕ
 labels_after st bits out = cond (eqb (write_refusal (worked_in st) st bits (length out)) 0) (labels_of (worked_in st) st bits) out
 
 -- what the reader answers, and what the lent bits are after the call
-unfoldable pub read_of : State → List ℕ → ℕ → Coded
+unfoldable pub read_of : State → List ℕ → ℕ → Answer
 read_of st labels lent =
     let number = read_refusal (worked_in st) st labels lent in
     cond (eqb number 0) (received (worked_in st) st labels) (refused_with number st)
@@ -96,12 +110,12 @@ unfoldable pub bits_after : State → List ℕ → List ℕ → List ℕ
 bits_after st labels bits = cond (eqb (read_refusal (worked_in st) st labels (length bits)) 0) (bits_of (worked_in st) st labels) bits
 
 -- what the writer must answer, and what the lent labels then are
-pub record WriteAnswer (st : State) (bits out : List ℕ) (r : Coded) (after : List ℕ) : Type 0 where
+pub record WriteAnswer (st : State) (bits out : List ℕ) (r : Answer) (after : List ℕ) : Type 0 where
   pub answer : r ≡ written_of st bits (length out)
   pub buffer : after ≡ labels_after st bits out
 
 -- what the reader must answer, and what the lent bits then are
-pub record ReadAnswer (st : State) (labels bits : List ℕ) (r : Coded) (after : List ℕ) : Type 0 where
+pub record ReadAnswer (st : State) (labels bits : List ℕ) (r : Answer) (after : List ℕ) : Type 0 where
   pub answer : r ≡ read_of st labels (length bits)
   pub buffer : after ≡ bits_after st labels bits
 

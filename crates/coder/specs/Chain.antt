@@ -5,8 +5,7 @@
 --           labels          labels₁          labels₂
 use Rattle.std.specs.Prelude.{List, [], ◌∷◌, ◌≡◌, ℕ, length}
 use Rattle.coder.specs.declared.states.State.{State}
-use Rattle.coder.specs.declared.states.Coded.{Coded}
-use Rattle.coder.specs.Answers.{written_of, labels_after, read_of, bits_after}
+use Rattle.coder.specs.Answers.{Answer, written_of, labels_after, read_of, bits_after}
 
 -- what a call is given, the bits or the labels of a data frame, and the buffer that it is lent
 pub record Call : Type 0 where
@@ -15,7 +14,7 @@ pub record Call : Type 0 where
 
 -- writing or reading: what is answered to a call, and what the lent buffer is after it
 pub record Direction : Type 0 where
-  pub answer : State → Call → Coded
+  pub answer : State → Call → Answer
   pub buffer : State → Call → List ℕ
 
 abbrev pub writing : Direction

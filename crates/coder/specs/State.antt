@@ -5,20 +5,31 @@
 --     0      5   14   1         1      8388607    3      done
 --     0      5   14   1         1      8388608    0      refused 7, all zeros
 --     0      5   14   1         2      8388608    0      refused 5, all zeros
-use Rattle.std.specs.Prelude.{Bool, cond, ◌||◌, [], ◌∷◌, ℕ, ◌^◌, leb, ltb, eqb}
+use Rattle.std.specs.Prelude.{Bool, cond, ◌||◌, [], ◌∷◌, ℕ, ◌^◌, leb, ltb, eqb, Result, Ok, Err}
+use Rattle.refusals.specs.declared.Refusal.{Refusal}
+use Rattle.refusals.specs.Numbers.{number}
 use Rattle.line.specs.Asked.{asked}
 use Rattle.line.specs.Settings.{worked_of}
 use Rattle.line.specs.declared.asked.Asked.{Asked}
 use Rattle.line.specs.Worked.{Worked, Accepted, Refused}
 use Rattle.laws.specs.Choice.{refusal}
 use Rattle.coder.specs.declared.states.State.{State}
-use Rattle.coder.specs.declared.states.Started.{Started}
+
+-- what a start answers: the refusal number, 0 where it is done, and the state; after a refusal a state of zeros
+pub record Started : Type 0 where
+  pub refusal : ℕ
+  pub state : State
 
 abbrev pub state_of : Asked → ℕ → ℕ → State
 state_of asked register z = record { asked = asked; register = register; z = z }
 
 abbrev pub zeros : State
 zeros = state_of (asked 0 0 0 0 0) 0 0
+
+-- what the code's result tells of it
+abbrev pub started : Result State Refusal → Started
+started (Ok st) = record { refusal = 0; state = st }
+started (Err refusal) = record { refusal = number refusal; state = zeros }
 
 -- the settings of a state, worked out
 abbrev pub worked_in : State → Worked

@@ -2,7 +2,7 @@
 //
 // What does it do? `start` and `short_start` make a state. specs/ say what the writer and the reader answer to whatever they are given, and
 // proofs/ that these undo each other. The code of the two stands in crates of their own, `writer` and `reader`.
-// How does it work? A state is the settings as they were asked for, the scrambler's register and Z. `answers` has the tests and the answers
+// How does it work? A state is the settings as they were asked for, the scrambler's register and Z. `answers` has the test and the answer
 // that both directions share.
 #![tactic(auto)]
 
@@ -11,4 +11,4 @@ pub mod starts;
 pub mod states;
 
 pub use starts::{short_start, start};
-pub use states::{Coded, Moved, Started, State};
+pub use states::{Coded, Moved, State};

@@ -1,32 +1,48 @@
-// The state of a line, and the answers that hold one.
+// The state of a line, and the answer that holds one.
+ghost use Rattle.std.specs.Prelude.{◌≡◌};
+ghost use Rattle.coder.specs.State.{unfit};
+ghost use Rattle.coder.specs.Answers.{moved_on};
+
 use line::Asked;
 
 // The settings as they were asked for, the scrambler's register and Z. M and the rest are worked out anew in each call.
-#[derive(Clone, Copy)]
+#[derive(Clone, Copy, PartialEq, Eq)]
 pub struct State {
     pub asked: Asked,
     pub register: u64,
     pub z: u64,
 }
 
-// What a start answers: the refusal number, 0 where it is done, and the state; after a refusal a state of zeros.
-#[derive(Clone, Copy)]
-pub struct Started {
-    pub refusal: u64,
-    pub state: State,
+impl State {
+    // 7: register 2^23 or more, or Z above 3.
+    pub fn is_unfit(self) -> bool
+        ensures { result ≡ unfit self }
+    {
+        self.register >= 1 << 23 || self.z > 3
+    }
+
+    // The state with another register and another Z.
+    pub fn moved_on(self, moved: Moved) -> State
+        ensures { result ≡ moved_on self moved.register moved.z }
+    {
+        let asked = self.asked;
+        State {
+            asked,
+            register: moved.register,
+            z: moved.z,
+        }
+    }
 }
 
-// What the writer and the reader answer: the refusal number, the bits of the data frame, and the next state; after a refusal 0 bits and
-// the state as it was given.
-#[derive(Clone, Copy)]
+// What the writer and the reader answer to a call that is not refused: the bits of the data frame, and the next state.
+#[derive(Clone, Copy, PartialEq, Eq)]
 pub struct Coded {
-    pub refusal: u64,
     pub bits: u64,
     pub state: State,
 }
 
 // The register and Z after a data frame.
-#[derive(Clone, Copy)]
+#[derive(Clone, Copy, PartialEq, Eq)]
 pub struct Moved {
     pub register: u64,
     pub z: u64,
