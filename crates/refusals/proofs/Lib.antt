@@ -1,0 +1,3 @@
+-- What is proved of the refusals' numbers,
+--     Once    no refusal has the number 0, and no two have the same
+pub mod Once
