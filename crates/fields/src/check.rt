@@ -1,11 +1,16 @@
-// The cyclic redundancy check (V.34, clause 10.1.2.3.2), over any part of a slice of bits. The register is a number below 2^16, its highest
-// weight the highest power: a bit moves it up by one place and, where the bit and the one that leaves differ, adds x^12 + x^5 + 1, 4129.
-ghost use Rattle.std.specs.Prelude.{◌≡◌, ◌+◌, ◌≤◌, ◌<◌, length};
-ghost use Rattle.std.proofs.Math.Seq.{slice};
-ghost use Rattle.laws.specs.Put.{put};
+// The cyclic redundancy check (V.34, clause 10.1.2.3.2), over any bits. The register is a number below 2^16, its highest weight the highest
+// power: a bit moves it up by one place and, where the bit and the one that leaves differ, adds x^12 + x^5 + 1, 4129.
+ghost use Rattle.std.specs.Prelude.{◌≡◌, ◌-◌, ◌≤◌, ◌<◌, length, take};
 ghost use Rattle.bits.specs.Digits.{Bits};
+ghost use Rattle.sequences.specs.Picture.{inside};
 ghost use Rattle.sequences.specs.Register.{step, crc};
+ghost use Rattle.sequences.specs.Sequence.{sealed};
 ghost use Rattle.fields.specs.Weights.{high_value, high_digits};
+
+use crate::picture::FREE;
+
+// The register before the first bit: sixteen ones.
+const PRESET: u64 = 65535;
 
 // The register after one bit.
 fn stepped(register: u64, bit: u64) -> u64
@@ -15,30 +20,48 @@ fn stepped(register: u64, bit: u64) -> u64
     (register % 32768 * 2) ^ ((register / 32768 + bit) % 2 * 4129)
 }
 
-// The check of the bits from `from` to before `to`.
-pub fn crc_of(bits: &[u8], from: usize, to: usize) -> u64
-    requires { (from ≤ to) × (to ≤ length bits.now) × Bits (slice from to bits.now) }
-    ensures { result ≡ high_value (crc (slice from to bits.now)) }
+// The check of some bits.
+pub fn crc_of(bits: &[u8]) -> u64
+    requires { Bits bits.now }
+    ensures { result ≡ high_value (crc bits.now) }
 {
-    let mut register: u64 = 65535;
-    let mut i = from;
-    while i < to {
-        register = stepped(register, bits[i] as u64);
-        i += 1;
+    let mut register = PRESET;
+    for bit in bits {
+        register = stepped(register, *bit as u64);
     }
     register
 }
 
-// The sixteen bits of a check, highest power first, from `at` on.
-pub fn put_crc(crc: u64, bits: &mut [u8], at: usize)
-    requires { at + 16 ≤ length bits.old }
-    ensures { bits.new ≡ put bits.old at (high_digits 16 crc) }
+// The check of what stands in the free places of a sequence.
+pub fn crc_inside(picture: &[u8], bits: &[u8]) -> u64
+    requires { (length bits.now ≡ length picture.now) × Bits bits.now }
+    ensures { result ≡ high_value (crc (inside picture.now bits.now)) }
 {
-    let mut left: u64 = 65536;
-    let mut i = 0;
-    while i < 16 {
-        left = left / 2;
-        bits[at + i] = (crc / left % 2) as u8;
-        i += 1;
+    let mut register = PRESET;
+    for (place, bit) in picture.iter().zip(bits) {
+        if *place == FREE {
+            register = stepped(register, *bit as u64);
+        }
     }
+    register
+}
+
+// The sixteen bits of a check, highest power first.
+pub fn put_crc(crc: u64, bits: &mut [u8])
+    requires { length bits.old ≡ 16 }
+    ensures { bits.new ≡ high_digits 16 crc }
+{
+    for (i, bit) in bits.iter_mut().enumerate() {
+        *bit = (crc >> (15 - i) & 1) as u8;
+    }
+}
+
+// The last sixteen places of a body get the check of those before them.
+pub fn seal(body: &mut [u8])
+    requires { (16 ≤ length body.old) × Bits (take (length body.old - 16) body.old) }
+    ensures { body.new ≡ sealed (take (length body.old - 16) body.old) }
+{
+    let at = body.len() - 16;
+    let check = crc_of(&body[..at]);
+    put_crc(check, &mut body[at..]);
 }

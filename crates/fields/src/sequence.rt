@@ -1,64 +1,68 @@
-// Reader and writer of any sequence: a picture of its places and a table of its fields say which. `body` is room for what stands in the
-// free places, the bits of the fields and then their check.
-ghost use Rattle.fields.specs.Requires.{Ready, ReadBy, WrittenBy};
+// Reader and writer of any sequence.
+ghost use Rattle.std.specs.Prelude.{◌≡◌, true};
+ghost use Rattle.sequences.specs.Picture.{free};
+ghost use Rattle.sequences.specs.Sequence.{is_whole, FieldsAnswer, SequenceAnswer};
+ghost use Rattle.refusals.specs.Numbers.{code};
+ghost use Rattle.fields.specs.Requires.{sequence, is_narrow};
+ghost use Rattle.fields.specs.Told.{numbers_told};
 
-use crate::check::{crc_of, put_crc};
-use crate::picture::{all_hold, put_around, take_inside};
+use crate::check::{crc_inside, seal};
+use crate::picture::{all_hold, put_around};
 use crate::table::{fields_in, in_range, put_fields};
 use bits::all_bits;
+use refusals::Refusal;
+use sequences::Field;
 
-// A refusal, or 0 and the numbers of the fields. What stands in `numbers` after a refusal is not said. Fields and their own check leave 0.
-pub fn read_sequence(
-    picture: &[u8],
-    table: &[u64],
-    bits: &[u8],
-    body: &mut [u8],
-    numbers: &mut [u64],
-) -> u64
-    requires { Ready picture.now table.now body.old numbers.old }
-    ensures { ReadBy picture.now table.now bits.now result numbers.new }
-{
-    if bits.len() != picture.len() {
-        return 8;
-    }
-    if !all_bits(bits) {
-        return 9;
-    }
-    if !all_hold(picture, bits) {
-        return 16;
-    }
-    take_inside(picture, bits, body);
-    if crc_of(body, 0, body.len()) != 0 {
-        return 17;
-    }
-    fields_in(table, bits, numbers);
-    if !in_range(table, numbers) {
-        return 18;
-    }
-    0
+// What says of a sequence which places and which fields it has. The free places, `FREE` of them, hold the bits of the fields and then
+// their check.
+pub struct Layout<const PLACES: usize, const FIELDS: usize, const FREE: usize> {
+    pub picture: [u8; PLACES],
+    pub table: [Field; FIELDS],
+    ghost whole: { is_whole (sequence picture table) ≡ true },
+    ghost narrow: { is_narrow table ≡ true },
+    ghost room: { free picture ≡ FREE },
 }
 
-// A refusal, or 0 and the sequence of the numbers in `lent`.
-pub fn write_sequence(
-    picture: &[u8],
-    table: &[u64],
-    numbers: &[u64],
-    body: &mut [u8],
-    lent: &mut [u8],
-) -> u64
-    requires { Ready picture.now table.now body.old numbers.now }
-    ensures { WrittenBy picture.now table.now numbers.now lent.old result lent.new }
-{
-    if lent.len() != picture.len() {
-        return 8;
+impl<const PLACES: usize, const FIELDS: usize, const FREE: usize> Layout<PLACES, FIELDS, FREE> {
+    // The numbers of the fields. Fields and their own check leave 0.
+    pub fn read_sequence(&self, bits: &[u8]) -> Result<[u64; FIELDS], Refusal>
+        ensures { FieldsAnswer (sequence self.now.picture self.now.table) bits.now (code result) (numbers_told FIELDS result) }
+    {
+        if bits.len() != PLACES {
+            return Err(Refusal::WrongLength);
+        }
+        if !all_bits(bits) {
+            return Err(Refusal::NotABit);
+        }
+        if !all_hold(&self.picture, bits) {
+            return Err(Refusal::WrongPicture);
+        }
+        if crc_inside(&self.picture, bits) != 0 {
+            return Err(Refusal::WrongCheck);
+        }
+        let mut numbers = [0u64; FIELDS];
+        fields_in(&self.table, bits, &mut numbers);
+        if !in_range(&self.table, &numbers) {
+            return Err(Refusal::FieldOutOfRange);
+        }
+        Ok(numbers)
     }
-    if !in_range(table, numbers) {
-        return 18;
+
+    // The sequence of the numbers in `lent`.
+    pub fn write_sequence(&self, numbers: &[u64; FIELDS], lent: &mut [u8]) -> Result<(), Refusal>
+        ensures { SequenceAnswer (sequence self.now.picture self.now.table) numbers.now lent.old (code result) lent.new }
+    {
+        if lent.len() != PLACES {
+            return Err(Refusal::WrongLength);
+        }
+        if !in_range(&self.table, numbers) {
+            return Err(Refusal::FieldOutOfRange);
+        }
+        let mut room = [0u8; FREE];
+        let body = &mut room[..];
+        put_fields(&self.table, numbers, body);
+        seal(body);
+        put_around(&self.picture, body, lent);
+        Ok(())
     }
-    put_fields(table, numbers, body);
-    let at = body.len() - 16;
-    let check = crc_of(body, 0, at);
-    put_crc(check, body, at);
-    put_around(picture, body, lent);
-    0
 }

@@ -6,7 +6,8 @@ use lib.ListN.{length, length-append}
 use Rattle.sequences.specs.Picture.{fixed, around}
 use Rattle.sequences.specs.Register.{crc}
 use Rattle.sequences.specs.Sequence.{sealed, sequence_of}
-use Rattle.sequences.specs.Table.{Field, field_bits, bit_count}
+use Rattle.sequences.specs.declared.Field.{Field}
+use Rattle.sequences.specs.Table.{field_bits, bit_count}
 use Rattle.sequences.proofs.Pictures.{around-places}
 use Rattle.sequences.proofs.Registers.{length-crc}
 use Rattle.sequences.proofs.Tables.{length-field_bits}

@@ -15,7 +15,8 @@ use Rattle.laws.proofs.Bools.{and_both}
 use Rattle.bits.specs.Digits.{value, digits}
 use Rattle.bits.proofs.Digitals.{bits-append, bits-digits, value-append, value-digits, digits_value}
 use Rattle.sequences.specs.Picture.{fixed, places, free}
-use Rattle.sequences.specs.Table.{Field, up_to, field_bits, in_range, is_laid, bit_count}
+use Rattle.sequences.specs.declared.Field.{Field}
+use Rattle.sequences.specs.Table.{up_to, field_bits, in_range, is_laid, bit_count}
 use Rattle.sequences.specs.Sequence.{is_whole, fields_refusal, sequence_refusal, sequence_of}
 use Rattle.sequences.proofs.Listed.{one_by_one}
 use Rattle.sequences.proofs.Named.{Printed}

@@ -3,7 +3,8 @@
 -- bits.
 use Rattle.std.specs.Prelude.{cond, List, [], ◌∷◌, ◌++◌, ℕ, ◌+◌, eqb, ℤ, get_or}
 use Rattle.sequences.specs.Sequence.{Sequence, fields_refusal, fields_read}
-use Rattle.sequences.specs.Table.{Field, up_to}
+use Rattle.sequences.specs.declared.Field.{Field}
+use Rattle.sequences.specs.Table.{up_to}
 use Rattle.offset.specs.Hertz.{reading_of}
 use Rattle.offset.specs.Signed.{signed, unsigned}
 use Rattle.offset.specs.declared.reading.Reading.TheVariants.{Blank}

@@ -13,7 +13,8 @@ use Rattle.laws.proofs.Bools.{and_parts, and_both}
 use Rattle.bits.specs.Digits.{value, digits, Bits}
 use Rattle.bits.proofs.Digitals.{length_digits, bits-digits, bits-append, bits-drop, value-digits, digits_value-take}
 use Rattle.sequences.specs.Picture.{free, inside}
-use Rattle.sequences.specs.Table.{Field, up_to, lies, fields_in, field_bits, in_range, bit_count, is_laid}
+use Rattle.sequences.specs.declared.Field.{Field}
+use Rattle.sequences.specs.Table.{up_to, lies, fields_in, field_bits, in_range, bit_count, is_laid}
 use Rattle.sequences.proofs.Pictures.{all-fixed, all-free}
 
 -- the numbers of fields that stand one behind the other

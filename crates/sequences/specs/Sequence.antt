@@ -9,7 +9,8 @@ use Rattle.laws.specs.Choice.{refusal}
 use Rattle.bits.specs.Digits.{all_bits}
 use Rattle.sequences.specs.Register.{crc}
 use Rattle.sequences.specs.Picture.{free, inside, around, all_hold}
-use Rattle.sequences.specs.Table.{Field, fields_in, field_bits, in_range, bit_count, is_laid}
+use Rattle.sequences.specs.declared.Field.{Field}
+use Rattle.sequences.specs.Table.{fields_in, field_bits, in_range, bit_count, is_laid}
 
 pub record Sequence : Type 0 where
   pub picture : List ℕ

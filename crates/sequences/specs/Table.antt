@@ -7,12 +7,7 @@ use Rattle.std.specs.Prelude.{Bool, true, ◌&&◌, List, [], ◌∷◌, ◌++�
 use Rattle.std.proofs.Math.Seq.{slice}
 use Rattle.bits.specs.Digits.{value, digits}
 use Rattle.sequences.specs.Picture.{free}
-
-pub record Field : Type 0 where
-  pub first : ℕ
-  pub width : ℕ
-  pub least : ℕ
-  pub most : ℕ
+use Rattle.sequences.specs.declared.Field.{Field}
 
 -- a field from 0 on
 abbrev pub up_to : ℕ → ℕ → ℕ → Field
