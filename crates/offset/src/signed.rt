@@ -8,9 +8,10 @@ pub fn signed(bits: u64, half: u64) -> i32
     ensures { result ≡ signed half bits }
 {
     if bits < half {
-        return bits as i32;
+        bits as i32
+    } else {
+        -1 - (half + half - 1 - bits) as i32
     }
-    -1 - (half + half - 1 - bits) as i32
 }
 
 // The bits of a number. Where they can't hold it, a number that they can't hold either.
@@ -18,16 +19,12 @@ pub fn unsigned(count: i32, half: u64) -> u64
     requires { half ≤ 2147483648 }
     ensures { result ≡ unsigned half count }
 {
-    if count < 0 {
-        let n = (-1 - count) as u64;
-        if n < half {
-            return half + half - 1 - n;
-        }
-        return half + half;
+    let size = u64::from(count.unsigned_abs());
+    if count < 0 && size <= half {
+        half + half - size
+    } else if count >= 0 && size < half {
+        size
+    } else {
+        half + half
     }
-    let n = count as u64;
-    if n < half {
-        return n;
-    }
-    half + half
 }
