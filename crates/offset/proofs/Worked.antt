@@ -1,7 +1,7 @@
 -- The offset worked out apart: what some bits are as a number, and some counts in hertz as bit patterns of binary64. Assumes nothing.
 use mathlib.Core.Path.{◌≡◌, refl}
 use lib.IntN.{pos, negsuc}
-use lib.Ieee.{div, of_int, to_bits, round, size, span, climb, units, odd}
+use lib.Ieee.{div, of_int, to_bits, binary64, of_bits, of_fields, round, size, span, climb, units, odd}
 use Rattle.std.specs.Prelude.{None}
 use Rattle.offset.specs.Hertz.{hertz_of, reading_of, pattern_of}
 use Rattle.offset.specs.Signed.{signed}
@@ -21,6 +21,11 @@ pub bits_1023 : signed 512 1023 ≡ negsuc 0
 bits_1023 = refl
 
 -- ---- hertz
+
+-- 50.0, as the code writes it, is the whole number 50
+pub fifty : of_bits binary64 4632233691727265792 ≡ of_int binary64 (pos 50)
+unfolding of_bits of_fields of_int round size span climb units odd
+fifty = refl
 
 pub hertz_of_0 : pattern_of (reading_of (pos 0)) ≡ 0
 unfolding hertz_of to_bits div of_int round size span climb units odd

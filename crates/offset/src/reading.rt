@@ -4,14 +4,14 @@ ghost use Rattle.offset.specs.Hertz.{reading_of, is_reading, pattern_of};
 ghost use Rattle.offset.specs.Requires.{NoNan};
 
 // The count −512 says that the offset could not be measured. Every other one is divided once by 50.
+#[tactic(auto, using(crate::proofs::Worked::fifty, crate::proofs::Readings::hertz_unless), unfolding(crate::specs::Hertz::hertz_of))]
 pub fn reading_of(count: i32) -> Option<f64>
     ensures { result ≡ reading_of count }
 {
     if count == -512 {
         return None;
     }
-    let steps = count as f64;
-    Some(steps / 50.0)
+    Some(f64::from(count) / 50.0)
 }
 
 // 1 for hertz, 0 for none.
