@@ -2,16 +2,10 @@
 use bits::all_bits;
 use fields::check::crc_of;
 
-// The check of the bits from `from` to before `to`, after a test of what `crc_of` asks; 65536, which is no check, where the test fails.
-pub fn tested_crc(bits: &[u8], from: usize, to: usize) -> u64 {
-    if from > to {
-        return 65536;
+// The check of bytes, and nothing where they are not all bits.
+pub fn tested_crc(bytes: &[u8]) -> Option<u64> {
+    if !all_bits(bytes) {
+        return None;
     }
-    if to > bits.len() {
-        return 65536;
-    }
-    if !all_bits(bits) {
-        return 65536;
-    }
-    crc_of(bits, from, to)
+    Some(crc_of(bytes))
 }

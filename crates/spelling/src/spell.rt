@@ -4,8 +4,8 @@
 // text that is lent costs the check of its function far more.
 pub fn spell(number: u64, bits: &mut [u8]) {
     let mut rest = number;
-    for i in (0..bits.len()).rev() {
-        bits[i] = (rest % 2) as u8;
-        rest = rest / 2;
+    for bit in bits.iter_mut().rev() {
+        *bit = (rest % 2) as u8;
+        rest /= 2;
     }
 }
