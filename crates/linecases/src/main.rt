@@ -5,7 +5,6 @@
 
 mod scrambling;
 mod settings;
-mod show;
 
 use std::io;
 

@@ -1,28 +1,12 @@
 // The worked cases of document 01 that are about settings, in its order, and how often each number comes back over a range that is wider
 // than the legal one.
-use crate::show::{say, spaced, text};
-use line::{Asked, Settings, Worked, next_frame, refusal_of, rings_of_shaping, work_out};
+use line::{Asked, Settings, next_frame, work_out};
+use refusals::code;
+use spelling::show::Spaced;
 use std::io;
 
-// N P b r K q M L.
-fn values(rt: &impl Print, c: Settings) -> io::Result<()> {
-    let shaping = c.shaping;
-    spaced(rt, c.bits)?;
-    spaced(rt, c.frames)?;
-    spaced(rt, c.high)?;
-    spaced(rt, c.step)?;
-    spaced(rt, c.shell)?;
-    spaced(rt, c.uncoded)?;
-    spaced(rt, rings_of_shaping(shaping))?;
-    spaced(rt, c.points)
-}
-
 fn settings(rt: &impl Print, s: u64, n: u64, shaping: u64, mark: u64) -> io::Result<()> {
-    say(rt, b"settings s ", s)?;
-    say(rt, b" n ", n)?;
-    say(rt, b" shaping ", shaping)?;
-    say(rt, b" mark ", mark)?;
-    text(rt, b":")?;
+    print!(rt; "settings s {s} n {n} shaping {shaping} mark {mark}:")?;
     let asked = Asked {
         role: 0,
         s,
@@ -30,48 +14,30 @@ fn settings(rt: &impl Print, s: u64, n: u64, shaping: u64, mark: u64) -> io::Res
         shaping,
         mark,
     };
-    let w = work_out(asked);
-    let Worked::Accepted(c) = w else {
-        say(rt, b" refused ", refusal_of(w))?;
-        text(rt, b"\n")?;
-        return Ok(());
-    };
-    values(rt, c)?;
-    text(rt, b"\n")
-}
-
-fn frame_word(rt: &impl Print, high: bool) -> io::Result<()> {
-    if high {
-        text(rt, b" high")?;
-        return Ok(());
+    match work_out(asked) {
+        Ok(settings) => println!(rt; "{}", Spaced(&settings.values())),
+        Err(refusal) => println!(rt; " refused {}", refusal.number()),
     }
-    text(rt, b" low")
 }
 
 // The switching of a data frame, a word for each mapping frame.
-fn switching(rt: &impl Print, frames: u64, step: u64) -> io::Result<()> {
-    let mut counter: u64 = 0;
+fn switching(rt: &impl Print, settings: Settings) -> io::Result<()> {
+    let Settings { frames, step, .. } = settings;
+    let mut counter = 0;
     for _ in 0..frames {
-        if frames > 16 {
-            return Ok(());
-        }
-        if step > frames {
-            return Ok(());
-        }
-        if counter >= frames {
+        if frames > 16 || step > frames || counter >= frames {
             return Ok(());
         }
         let turn = next_frame(frames, step, counter);
-        frame_word(rt, turn.high)?;
+        let word = if turn.high { "high" } else { "low" };
+        print!(rt; " {word}")?;
         counter = turn.counter;
     }
     Ok(())
 }
 
 fn switched(rt: &impl Print, s: u64, n: u64) -> io::Result<()> {
-    say(rt, b"switching s ", s)?;
-    say(rt, b" n ", n)?;
-    text(rt, b":")?;
+    print!(rt; "switching s {s} n {n}:")?;
     let asked = Asked {
         role: 0,
         s,
@@ -79,12 +45,11 @@ fn switched(rt: &impl Print, s: u64, n: u64) -> io::Result<()> {
         shaping: 0,
         mark: 1,
     };
-    let w = work_out(asked);
-    let Worked::Accepted(c) = w else {
+    let Ok(settings) = work_out(asked) else {
         return Ok(());
     };
-    switching(rt, c.frames, c.step)?;
-    text(rt, b"\n")
+    switching(rt, settings)?;
+    println!(rt)
 }
 
 // Number i of role 0 to 2, s 0 to 6, n 0 to 16, shaping 0 to 2 and mark 0 to 3, 4,284 in all.
@@ -99,45 +64,32 @@ fn asked_of(i: u64) -> Asked {
 }
 
 // How many of them get the number.
-fn answered(number: u64) -> u64 {
-    let mut count: u64 = 0;
-    for i in 0..4284 {
-        if refusal_of(work_out(asked_of(i))) == number {
-            count += 1;
-        }
-    }
-    count
-}
-
-fn number_line(rt: &impl Print, number: u64) -> io::Result<()> {
-    say(rt, b"of 4284 settings get ", number)?;
-    say(rt, b": ", answered(number))?;
-    text(rt, b"\n")
-}
-
-fn number_lines(rt: &impl Print) -> io::Result<()> {
-    number_line(rt, 0)?;
-    number_line(rt, 1)?;
-    number_line(rt, 2)?;
-    number_line(rt, 3)?;
-    number_line(rt, 4)?;
-    number_line(rt, 5)?;
-    number_line(rt, 6)
+fn answered(number: u32) -> usize {
+    (0..4284)
+        .filter(|i| code(work_out(asked_of(*i))) == number)
+        .count()
 }
 
 pub fn cases(rt: &impl Print) -> io::Result<()> {
-    text(rt, b"settings\n")?;
-    settings(rt, 4, 12, 0, 0)?;
-    settings(rt, 4, 12, 1, 0)?;
-    settings(rt, 4, 13, 0, 0)?;
-    settings(rt, 4, 13, 0, 1)?;
-    settings(rt, 4, 13, 0, 2)?;
-    settings(rt, 0, 1, 0, 0)?;
-    settings(rt, 0, 10, 0, 0)?;
-    settings(rt, 5, 2, 0, 0)?;
-    settings(rt, 5, 14, 1, 1)?;
-    settings(rt, 5, 14, 1, 4294967297)?;
+    println!(rt; "settings")?;
+    for (s, n, shaping, mark) in [
+        (4, 12, 0, 0),
+        (4, 12, 1, 0),
+        (4, 13, 0, 0),
+        (4, 13, 0, 1),
+        (4, 13, 0, 2),
+        (0, 1, 0, 0),
+        (0, 10, 0, 0),
+        (5, 2, 0, 0),
+        (5, 14, 1, 1),
+        (5, 14, 1, 4294967297),
+    ] {
+        settings(rt, s, n, shaping, mark)?;
+    }
     switched(rt, 5, 2)?;
     switched(rt, 5, 14)?;
-    number_lines(rt)
+    for number in 0..7 {
+        println!(rt; "of 4284 settings get {number}: {}", answered(number))?;
+    }
+    Ok(())
 }
