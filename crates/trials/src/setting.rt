@@ -1,24 +1,28 @@
 // Every legal setting with mark 1, by its number, at its start.
-use coder::State;
-use line::{Asked, Worked};
+ghost use Rattle.std.specs.Prelude.{◌≤◌};
 
-// A setting's start, N, 16·P, and its highest 2D label, M·2^q − 1; zeros where it is refused.
+use coder::State;
+use line::Asked;
+
+// The bits and the labels of the longest data frame.
+pub const BITS: usize = 1248;
+
+pub const LABELS: usize = 256;
+
+// A setting's start, N, 16·P, and its highest 2D label, M·2^q − 1.
 #[derive(Clone, Copy)]
 pub struct Setting {
     pub state: State,
     pub bits: usize,
     pub labels: usize,
-    pub highest: u64,
+    pub highest: u16,
+    pub ghost bits_fit: { bits ≤ 1248 },
+    pub ghost labels_fit: { labels ≤ 256 },
 }
 
 // Some register for the start of a setting, each another one.
 fn register_of(i: u64) -> u64 {
     i % 65536 * 24681 % 8388608
-}
-
-// M·2^q − 1, L being 4·M·2^q.
-fn highest_of(points: u64) -> u64 {
-    (points / 4 % 16384 + 16383) % 16384
 }
 
 // Number i of the 336 settings of role 0 and 1, shaping 0 and 1, s 0 to 5 and n 1 to 14.
@@ -32,24 +36,21 @@ fn asked_of(i: u64) -> Asked {
     }
 }
 
-// It at its start, and its numbers.
-pub fn setting_of(i: u64) -> Setting {
+// It at its start, and its numbers, L being 4·M·2^q; nothing where it is refused.
+pub fn setting_of(i: u64) -> Option<Setting> {
     let asked = asked_of(i);
-    let begun = coder::start(asked, register_of(i), i % 4);
-    let state = begun.state;
-    let worked = line::work_out(asked);
-    let Worked::Accepted(c) = worked else {
-        return Setting {
-            state,
-            bits: 0,
-            labels: 0,
-            highest: 0,
-        };
-    };
-    Setting {
-        state,
-        bits: c.bits as usize,
-        labels: (c.frames % 17 * 16) as usize,
-        highest: highest_of(c.points),
+    let state = coder::start(asked, register_of(i), i % 4).ok()?;
+    let settings = line::work_out(asked).ok()?;
+    let highest = u16::try_from((settings.points / 4).checked_sub(1)?).ok()?;
+    let bits = settings.bits as usize;
+    let frames = settings.frames as usize;
+    if bits > BITS || frames > 16 {
+        return None;
     }
+    Some(Setting {
+        state,
+        bits,
+        labels: 16 * frames,
+        highest,
+    })
 }
