@@ -7,10 +7,12 @@ use native.Mathlib.Nat.{sub-zero, mul_comm}
 use native.Mathlib.Omega.{arith}
 use lib.ListN.{length, take, drop, drop_of_length-le, length-drop}
 use lib.Seq.{drop-drop, length-take-le, take_at}
+use borrow.Rule.Slice.PartMut.{put_mid, mid_len}
 use Rattle.bits.specs.Digits.{Bits}
 use Rattle.laws.specs.Emit.{emit, iter}
 use Rattle.laws.specs.Lists.{Every}
 use Rattle.laws.specs.Put.{put}
+use Rattle.laws.proofs.Puts.{put_loan}
 use Rattle.laws.proofs.Counting.{every-imp}
 use Rattle.listing.specs.Number.{rings_of}
 use Rattle.listing.specs.Sets.{as_list}
@@ -32,6 +34,9 @@ use Rattle.scrambler.proofs.Inverse.{length-scramble, push_all-below}
 use Rattle.scrambler.proofs.Fronts.{take-scramble, drop-scramble, push_all-scramble}
 use Rattle.coder.specs.declared.states.Moved.{Moved}
 use Rattle.coder.proofs.Sent.{frame-sixteen, length_left, length-left-next, length-left_none}
+use Rattle.mapping_frames.specs.Steps.{Stepped}
+use Rattle.mapping_frames.specs.declared.Frame.{Frame}
+use Rattle.mapping_frames.specs.declared.Frames.{Frames}
 use Rattle.writer.specs.OneFrame.{FrameSent}
 use Rattle.writer.specs.Requires.{FrameSendable}
 use Rattle.frame.specs.Next.{high_next, shape_next, length_next}
@@ -205,3 +210,48 @@ module _ {c : Settings} {m₀ : Moved} {bits out : List ℕ} {moved : Moved} {co
     pub part-sent-turned : moved.z ≡ data_turned c m₀.register m₀.z bits
     unfolding data_turned
     part-sent-turned = ap (λ (t : Sending). t.z) (filling_last h.filling all)
+
+-- The mapping frame that a step gives, the frames before it being sent.
+module _ {c : Settings} {m₀ : Moved} {bits out : List ℕ} {moved : Moved} {s t : Frames} {frame : Frame}
+    (same : s.settings ≡ c) (h : PartSent c m₀ bits out moved s.counter s.start s.index) (step : Stepped s frame t) where
+  step-more : s.index < c.frames
+  step-more = rw same at step.more
+
+  step-end : frame.end ≡ s.start + length_next c s.counter
+  step-end = rw same at step.end
+
+  step-shape : frame.shape ≡ shape_next c s.counter
+  step-shape = rw same at step.shape
+
+  -- it has its bits
+  step-length : frame.end - s.start ≡ length_next c s.counter
+  step-length = omega (arith, step-end)
+
+  pub step-there : frame.end ≤ length bits
+  step-there = omega (arith, step-end, next-there h step-more)
+
+  -- and its labels
+  lent-sixteen : length (take (16 * frame.index + 16 - 16 * frame.index) (drop (16 * frame.index) out)) ≡ 16
+  lent-sixteen =
+      mid_len (16 * frame.index) (16 * frame.index + 16) out (omega (arith, part-sent-length h, step-more, step.index)) ∙ omega arith
+
+  -- it can be sent
+  pub step-sendable :
+      (m : ℕ) → Sound c → m ≡ ring_count c → Bits bits
+      → FrameSendable m frame.shape moved (take (frame.end - frame.start) (drop frame.start bits))
+      (take (16 * frame.index + 16 - 16 * frame.index) (drop (16 * frame.index) out))
+  step-sendable m sound is_m binary =
+      rw step.start
+      (frame_sendable h step-more (frame.end - s.start) frame.shape step-length step-shape m _ sound is_m binary lent-sixteen)
+
+  -- and where its labels are put, a frame more is sent
+  pub step-sent :
+      (m : ℕ) (after : Moved) (labels : List ℕ) → Sound c → m ≡ ring_count c
+      → FrameSent m frame.shape c.role moved (take (frame.end - frame.start) (drop frame.start bits)) after labels
+      → PartSent c m₀ bits (put_mid (16 * frame.index) (16 * frame.index + 16 - 16 * frame.index) out labels) after
+      t.counter t.start t.index
+  step-sent m after labels sound is_m sent =
+      rw (step.next, step.index)
+      (part-sent-more h step-more (frame.end - s.start) frame.shape step-length step-shape m is_m after labels (rw step.start at sent)
+      t.counter t.start _ sound (rw same at step.counted) (omega (arith, step-length, rw same at step.on))
+      (put_loan out (16 * s.index) (16 * s.index + 16) labels (omega (arith, sent-sixteen sent))))

@@ -8,37 +8,40 @@ ghost use Rattle.coder.specs.Sending.{data_labels, data_register, data_turned};
 
 use bits::value_at;
 use coder::states::{Moved, State};
-use counts::counts_of;
-use frame::next::next_of;
-use frame::shape::{Shape, room};
+use counts::{Counts, counts_of};
+use frame::shape::Shape;
 use frame::write::write_frame;
+use mapping_frames::Frames;
 use line::{Settings, rings_of_shaping};
 use rings::rings_of;
 use scrambler::scramble_part;
 
 // One mapping frame: its bits are scrambled, S gives the rings, and the labels go straight into the part that is lent. The rows are those
 // of the counts of m.
-fn send_frame<'a>(
-    m: u64,
-    pairs: &'a [u64; 69],
-    fours: &'a [u64; 137],
-    lighter: &'a [u64; 137],
-    shape: Shape,
+fn send_frame(
+    counts: &Counts,
     role: u64,
-    moved: Moved,
+    shape: Shape,
+    before: Moved,
     bits: &[u8],
     out: &mut [u16],
 ) -> Moved
-    requires rows { Rows m pairs.now fours.now lighter.now }
-    requires frame_sendable { FrameSendable m shape moved bits.now out.old }
-    ensures { FrameSent m shape role moved bits.now result out.new }
+    requires rows { Rows counts.now.m counts.now.pairs counts.now.fours counts.now.lighter }
+    requires frame_sendable { FrameSendable counts.now.m shape before bits.now out.old }
+    ensures { FrameSent counts.now.m shape role before bits.now result out.new }
 {
-    let mut space = room();
-    let register = scramble_part(role, moved.register, bits, &mut space);
+    let mut space = [0; 80];
+    let register = scramble_part(role, before.register, bits, &mut space);
     let scrambled = &space[..bits.len()];
     let s = value_at(scrambled, 0, shape.shell);
-    let rings = rings_of(m, pairs, fours, lighter, s);
-    let z = write_frame(shape, &rings.ring, moved.z, scrambled, out);
+    let rings = rings_of(
+        counts.m,
+        &counts.pairs,
+        &counts.fours,
+        &counts.lighter,
+        s,
+    );
+    let z = write_frame(shape, &rings.ring, before.z, scrambled, out);
     Moved { register, z }
 }
 
@@ -51,30 +54,20 @@ pub fn send(st: State, c: Settings, bits: &[u8], out: &mut [u16]) -> Moved
 {
     let shaping = c.shaping;
     let counts = counts_of(rings_of_shaping(shaping));
-    let frames = c.frames as usize;
     let mut moved = Moved {
         register: st.register,
         z: st.z,
     };
-    let mut counter = 0;
-    let mut at = 0;
-    let mut k = 0;
-    while k < frames {
-        let next = next_of(c, counter);
+    for frame in Frames::of(c) {
+        let at = 16 * frame.index;
         moved = send_frame(
-            counts.m,
-            &counts.pairs,
-            &counts.fours,
-            &counts.lighter,
-            next.shape,
+            &counts,
             c.role,
+            frame.shape,
             moved,
-            &bits[at..at + next.size],
-            &mut out[16 * k..16 * k + 16],
+            &bits[frame.start..frame.end],
+            &mut out[at..at + 16],
         );
-        counter = next.counter;
-        at += next.size;
-        k += 1;
     }
     moved
 }
