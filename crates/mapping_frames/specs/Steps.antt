@@ -6,7 +6,6 @@
 --     ..
 use Rattle.std.specs.Prelude.{◌≡◌, ℕ, ◌+◌, ◌*◌, ◌≤◌, ◌<◌, Option, MatchOption}
 use Rattle.line.specs.Switching.{counter_after}
-use Rattle.line.specs.declared.settings.Settings.{Settings}
 use Rattle.frame.specs.Next.{shape_next, length_next}
 use Rattle.frame.specs.Requires.{Stepping}
 use Rattle.mapping_frames.specs.declared.Frame.{Frame}

@@ -7,7 +7,11 @@ use mathlib.Core.Path.{◌≡◌, refl, sym, ap, subst, ◌∙◌}
 use Prim.Native.Nat.{ℕ, zero, suc, ◌+◌, ◌*◌, ◌-◌, ◌^◌, ◌≤◌, ◌<◌}
 use native.Mathlib.Nat.{sub-zero}
 use native.Mathlib.Omega.{arith}
-use lib.ListN.{length}
+use lib.ListN.{length, get_or, take, drop}
+use denote.Ref.{Bor}
+use Rattle.std.specs.declared.slice.ChunksExact.{ChunksExact}
+use Rattle.std.specs.Prelude.{Some}
+use Rattle.std.specs.Slice.Iter.{chunks_exact_steps}
 use borrow.Rule.Slice.PartMut.{mid_of, put_mid, mid_len}
 use Rattle.laws.specs.Emit.{emit, iter}
 use Rattle.laws.proofs.Emits.{Filling, filling_none, filling_more, filling_whole, filling_last, part_room}
@@ -23,7 +27,12 @@ use Rattle.scrambler.specs.Scrambler.{descramble, push_all}
 use Rattle.scrambler.proofs.Inverse.{length-descramble, push_all-below}
 use Rattle.scrambler.proofs.Joins.{push_all-append, descramble-append}
 use Rattle.coder.specs.declared.states.Moved.{Moved}
-use Rattle.reader.specs.OneFrame.{number_at, FrameReceived}
+use Rattle.coder.specs.declared.states.State.{State}
+use Rattle.coder.specs.Answers.{Receivable}
+use Rattle.mapping_frames.specs.Steps.{Stepped}
+use Rattle.mapping_frames.specs.declared.Frame.{Frame}
+use Rattle.mapping_frames.specs.declared.Frames.{Frames}
+use Rattle.reader.specs.OneFrame.{number_at, Ranked, FrameReceived}
 use Rattle.reader.specs.Requires.{FrameReceivable}
 use Rattle.frame.specs.Next.{shape_next, length_next}
 use Rattle.coder.specs.Sending.{ring_count}
@@ -31,7 +40,9 @@ use Rattle.coder.specs.Receiving.{Receiving, next_bits, after_bits, receiving_of
 use Rattle.coder.specs.Receiving.{data_received, data_bits, data_read_register, data_read_turned}
 use Rattle.coder.proofs.Ranges.{shape-range}
 use Rattle.coder.proofs.Received.{Told, ToldNext, told-next, told-length}
-use Rattle.reader.proofs.Passes.{sixteen_at, left_at, sixteen_is, left_on, sixteen-length}
+use Rattle.reader.proofs.Passes.{sixteen_at, left_at, left_on, sixteen-length, sixteen_is}
+use Rattle.reader.proofs.Passes.{sound_of, settled_in}
+use Rattle.reader.proofs.Passes.{Paired, paired-more, paired-shape, paired-counted}
 use Rattle.reader.proofs.Ranking.{shape-number}
 
 -- what is left to read, and the register
@@ -80,7 +91,7 @@ pub record PartRead (c : Settings) (labels : List ℕ) (z register k : ℕ) (mov
   pub held : moved.register < 2 ^ 23
 
 -- none is
-pub part-read_none :
+part-read_none :
     (c : Settings) → Sound c → (labels : List ℕ) (z register : ℕ) (bits : List ℕ) → Told c c.frames (receiving_of z labels)
     → register < 2 ^ 23 → length bits ≡ c.bits → PartRead c labels z register 0 (record { register = register; z = z }) 0 0 bits
 part-read_none c sound labels z register bits told held size =
@@ -99,6 +110,16 @@ part-read_none c sound labels z register bits told held size =
         ap length (coming-bits c c.frames (coming t register))
         ∙ (length-descramble c.role register (emit (next_bits c) (after_bits c) c.frames t)
         ∙ (told-length c sound c.frames t told ∙ sound.frame.adds))
+
+-- where a data frame can be received
+pub part-read_first :
+    (st : State) (c : Settings) (labels bits : List ℕ) → Receivable st c labels bits
+    → PartRead c labels st.z st.register 0 (record { register = st.register; z = st.z }) 0 0 bits
+part-read_first st c labels bits p =
+    let sound = sound_of (settled_in st c p.worked) in
+    part-read_none c sound labels st.z st.register bits
+    (record { size = p.count; ranges = p.ranges; numbers = p.numbers; steps = p.steps; turn = p.turn }) p.held
+    (p.size ∙ sound.user_is)
 
 -- One frame more.
 module _ {c : Settings} (sound : Sound c) {labels : List ℕ} {z register k : ℕ} {moved : Moved} {counter at : ℕ} {bits : List ℕ}
@@ -131,7 +152,7 @@ module _ {c : Settings} (sound : Sound c) {labels : List ℕ} {z register k : �
   unfolding t
   frame_receivable shape e number is_number end is-end count =
       let fits = next_fits c sound counter in
-      let ranges : in_range (ring_count c) c.uncoded 4 (sixteen_at labels k) ≡ true = rw (← sixteen_is labels k) next.ranges in
+      let ranges : in_range (ring_count c) c.uncoded 4 (sixteen_at labels k) ≡ true = next.ranges in
       let size = mid_len at end bits (omega (arith, frame-room)) in
       record {
         readable =
@@ -146,8 +167,8 @@ module _ {c : Settings} (sound : Sound c) {labels : List ℕ} {z register k : �
             };
         held = h.held;
         short = omega (arith, size, fits.size, fits.short);
-        fits = rw (e, ← sixteen_is labels k) next.number;
-        steps = rw (e, ← sixteen_is labels k) next.steps;
+        fits = rw e next.number;
+        steps = rw e next.steps;
       }
 
   -- and then the next is to follow
@@ -160,7 +181,7 @@ module _ {c : Settings} (sound : Sound c) {labels : List ℕ} {z register k : �
     unfolding next_bits frame_read t
     read_is =
         let ranked = shape-number c sound labels k counter (ring_count c) (shape_next c counter) refl refl in
-        rw (is_number, ← ranked, e, sixteen_is labels k)
+        rw (is_number, ← ranked, e)
 
     part_is : part ≡ coming_bits c (coming t moved.register)
     unfolding coming_bits
@@ -193,6 +214,44 @@ module _ {c : Settings} (sound : Sound c) {labels : List ℕ} {z register k : �
           below = rw counted (counter-stays c.frames c.step counter sound.step-most h.below);
           held = rw (← register_is) (push_all-below moved.register (next_bits c t) h.held);
         }
+
+-- The frame that a step gives, with its sixteen labels.
+module _ {c : Settings} (sound : Sound c) {labels : List ℕ} {z register : ℕ} {moved : Moved} {bits : List ℕ}
+    {frames after : Frames} {frame : Frame} {left : ChunksExact ℕ} (p : Paired c labels frames left)
+    (h : PartRead c labels z register frames.index moved frames.counter frames.start bits) (step : Stepped frames frame after) where
+  step-end : frame.end ≡ frames.start + length_next c frames.counter
+  step-end = rw p.same at step.end
+
+  -- its bits have room
+  pub step-room : frame.end ≤ length bits
+  step-room = omega (arith, step-end, frame-room sound h (paired-more p step))
+
+  module _ (sixteen : Bor (List ℕ)) (next : ChunksExact ℕ) (chunk : chunks_exact_steps left (Some sixteen) next)
+      (numbers : List ℕ) (ranked : Ranked c labels numbers) where
+    here : sixteen.now ≡ sixteen_at labels frames.index
+    here = sixteen_is p.sixteens sixteen next chunk
+
+    found : get_or numbers frame.index 0 ≡ number_at c labels frames.index
+    found = rw step.index (ranked.found frames.index (paired-more p step))
+
+    -- it can be received
+    pub step-receivable :
+        length labels ≡ 16 * c.frames
+        → FrameReceivable frame.shape (get_or numbers frame.index 0) moved sixteen.now (take (frame.end - frame.start) (drop frame.start bits))
+    step-receivable count =
+        rw (here, step.start)
+        (frame_receivable sound h (paired-more p step) frame.shape (paired-shape p step) _ found frame.end step-end count)
+
+    -- and then a frame more is read
+    pub step-read :
+        (then : Moved) (part : List ℕ)
+        → FrameReceived c.role frame.shape (get_or numbers frame.index 0) moved sixteen.now then part
+        → PartRead c labels z register after.index then after.counter after.start (put_mid frame.start (frame.end - frame.start) bits part)
+    step-read then part done =
+        let on : after.start ≡ frame.end = rw p.same at step.on ∙ sym step-end in
+        rw (step.next, on, step.start)
+        (part-read-more sound h (paired-more p step) then after.counter frame.end part _ frame.shape _ (paired-shape p step) found
+        (rw here at done) step-end (paired-counted p step) refl)
 
 -- all are
 module _ {c : Settings} {labels : List ℕ} {z register k : ℕ} {moved : Moved} {counter at : ℕ} {bits : List ℕ}

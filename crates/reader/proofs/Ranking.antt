@@ -1,7 +1,7 @@
 -- The numbers of the frames' rings, which the pass of 11 finds one after the other and which are read from then on. Assumes nothing.
-use mathlib.Core.Bool.{true}
+use mathlib.Core.Bool.{Bool, true}
 use mathlib.Core.List.{List}
-use mathlib.Core.Path.{◌≡◌, ◌∙◌}
+use mathlib.Core.Path.{◌≡◌, refl, sym, ap, ◌∙◌}
 use Prim.Native.Nat.{ℕ, ◌+◌, ◌≤◌, ◌<◌}
 use native.Mathlib.Decide.{dec_lt}
 use native.Mathlib.Omega.{arith}
@@ -12,20 +12,20 @@ use Rattle.line.proofs.Soundness.{Sound}
 use Rattle.frame.specs.declared.shape.Shape.{Shape}
 use Rattle.listing.specs.Number.{number}
 use Rattle.listing.specs.Sets.{Below8, of_list}
-use Rattle.frame.specs.Reading.{rings_read, number_read, in_range}
+use Rattle.frame.specs.Reading.{rings_read, number_read, in_range, shell_holds, number_fits}
 use Rattle.frame.proofs.Lengths.{next_fits}
 use Rattle.frame.proofs.Sixteen.{eight-below}
 use Rattle.reader.specs.OneFrame.{number_at, Ranked}
 use Rattle.frame.specs.Next.{shape_next}
 use Rattle.coder.specs.Sending.{ring_count}
-use Rattle.reader.proofs.Passes.{sixteen_at, sixteen_is}
+use Rattle.reader.proofs.Passes.{sixteen_at}
 
 -- Of a frame's shape the number asks for q alone, which is that of the settings.
 pub shape-number :
     (c : Settings) → Sound c → (labels : List ℕ) (k counter M : ℕ) (shape : Shape) → M ≡ ring_count c → shape ≡ shape_next c counter
     → number_read M shape (sixteen_at labels k) ≡ number_at c labels k
 unfolding number_read
-shape-number c sound labels k counter M shape m e = rw (m, e, (next_fits c sound counter).uncoded, sixteen_is labels k)
+shape-number c sound labels k counter M shape m e = rw (m, e, (next_fits c sound counter).uncoded)
 
 -- The rings of frame k, as the pass takes them out of its labels: they are below M, and their number is the frame's.
 module _ (c : Settings) (labels : List ℕ) (k m : ℕ) (ring : List ℕ) (is_m : m ≡ ring_count c)
@@ -34,7 +34,7 @@ module _ (c : Settings) (labels : List ℕ) (k m : ℕ) (ring : List ℕ) (is_m 
   taken-below ranges = rw (is_m, is_read) (eight-below (ring_count c) c.uncoded (sixteen_at labels k) ranges)
 
   pub taken-number : number m (of_list ring) ≡ number_at c labels k
-  taken-number = rw (is_m, is_read, sixteen_is labels k)
+  taken-number = rw (is_m, is_read)
 
 -- those of k frames are found
 pub record FirstRanked (c : Settings) (labels numbers : List ℕ) (k : ℕ) : Type 0 where
@@ -66,3 +66,11 @@ pub ranked-all :
     → Ranked c labels numbers
 ranked-all c sound labels numbers k h all =
     record { room = omega (arith, h.size, sound.frames-most); found = λ i l. h.done i (omega arith) }
+
+-- 11: whether a frame's number fits, its shape being the next one
+pub number-fits_is :
+    (c : Settings) → Sound c → (labels : List ℕ) (k counter : ℕ) (shape : Shape) (number : ℕ) (r : Bool) → shape ≡ shape_next c counter
+    → number ≡ number_at c labels k → r ≡ shell_holds shape number → r ≡ number_fits (ring_count c) shape (sixteen_at labels k)
+unfolding number_fits
+number-fits_is c sound labels k counter shape number r is-shape is_number holds =
+    holds ∙ ap (shell_holds shape) (is_number ∙ sym (shape-number c sound labels k counter (ring_count c) shape refl is-shape))

@@ -6,10 +6,10 @@ ghost use Rattle.reader.specs.Requires.{FrameReceivable};
 ghost use Rattle.coder.specs.Receiving.{data_bits, data_read_register, data_read_turned};
 
 use coder::states::{Moved, State};
-use frame::next::next_of;
 use frame::read::read_frame;
-use frame::shape::{Shape, room};
+use frame::shape::Shape;
 use line::Settings;
+use mapping_frames::Frames;
 use scrambler::descramble_part;
 
 // The bits of one frame, `number` being that of its rings, into the part of the bit buffer that is lent for them, and the register and Z
@@ -26,42 +26,33 @@ fn receive_frame(
     ensures { FrameReceived role shape number before labels.now result bits.new }
 {
     let size = bits.len();
-    let mut space = room();
+    let mut space = [0; 80];
     let z = read_frame(shape, number, before.z, labels, &mut space[..size]);
     let register = descramble_part(role, before.register, &space[..size], bits);
     Moved { register, z }
 }
 
 // The bits of a data frame, straight into the lent buffer. Its frames are ranked already.
-pub fn receive(st: State, c: Settings, labels: &[u16], numbers: &[u64], bits: &mut [u8]) -> Moved
+pub fn receive(st: State, c: Settings, labels: &[u16], numbers: &[u64; 16], bits: &mut [u8]) -> Moved
     requires receivable { Receivable st c labels.now bits.old }
     requires ranked { Ranked c labels.now numbers.now }
     ensures bits_after { bits.new ≡ data_bits c st.register st.z labels.now }
     ensures register_value { result.register ≡ data_read_register c st.register st.z labels.now }
     ensures z_value { result.z ≡ data_read_turned c st.z labels.now }
 {
-    let frames = c.frames as usize;
     let mut moved = Moved {
         register: st.register,
         z: st.z,
     };
-    let mut counter = 0;
-    let mut at = 0;
-    let mut k = 0;
-    while k < frames {
-        let next = next_of(c, counter);
-        let end = at + next.size;
+    for (frame, sixteen) in Frames::of(c).zip(labels.chunks_exact(16)) {
         moved = receive_frame(
             c.role,
-            next.shape,
-            numbers[k],
+            frame.shape,
+            numbers[frame.index],
             moved,
-            &labels[16 * k..16 * k + 16],
-            &mut bits[at..end],
+            sixteen,
+            &mut bits[frame.start..frame.end],
         );
-        counter = next.counter;
-        at = end;
-        k += 1;
     }
     moved
 }

@@ -1,6 +1,5 @@
 // The mapping frames of a data frame, written one after the other.
 ghost use Rattle.std.specs.Prelude.{◌≡◌};
-ghost use Rattle.counts.specs.Counts.{Rows};
 ghost use Rattle.coder.specs.Answers.{Sendable};
 ghost use Rattle.writer.specs.OneFrame.{FrameSent};
 ghost use Rattle.writer.specs.Requires.{FrameSendable};
@@ -12,12 +11,11 @@ use counts::{Counts, counts_of};
 use frame::shape::Shape;
 use frame::write::write_frame;
 use mapping_frames::Frames;
-use line::{Settings, rings_of_shaping};
+use line::Settings;
 use rings::rings_of;
 use scrambler::scramble_part;
 
-// One mapping frame: its bits are scrambled, S gives the rings, and the labels go straight into the part that is lent. The rows are those
-// of the counts of m.
+// One mapping frame: its bits are scrambled, S gives the rings, and the labels go straight into the part that is lent.
 fn send_frame(
     counts: &Counts,
     role: u64,
@@ -26,22 +24,15 @@ fn send_frame(
     bits: &[u8],
     out: &mut [u16],
 ) -> Moved
-    requires rows { Rows counts.now.m counts.now.pairs counts.now.fours counts.now.lighter }
-    requires frame_sendable { FrameSendable counts.now.m shape before bits.now out.old }
+    requires { FrameSendable counts.now.m shape before bits.now out.old }
     ensures { FrameSent counts.now.m shape role before bits.now result out.new }
 {
     let mut space = [0; 80];
     let register = scramble_part(role, before.register, bits, &mut space);
     let scrambled = &space[..bits.len()];
     let s = value_at(scrambled, 0, shape.shell);
-    let rings = rings_of(
-        counts.m,
-        &counts.pairs,
-        &counts.fours,
-        &counts.lighter,
-        s,
-    );
-    let z = write_frame(shape, &rings.ring, before.z, scrambled, out);
+    let rings = rings_of(counts, s);
+    let z = write_frame(shape, &rings, before.z, scrambled, out);
     Moved { register, z }
 }
 
@@ -52,8 +43,7 @@ pub fn send(st: State, c: Settings, bits: &[u8], out: &mut [u16]) -> Moved
     ensures register_value { result.register ≡ data_register c st.register bits.now }
     ensures z_value { result.z ≡ data_turned c st.register st.z bits.now }
 {
-    let shaping = c.shaping;
-    let counts = counts_of(rings_of_shaping(shaping));
+    let counts = counts_of(c.shaping.rings());
     let mut moved = Moved {
         register: st.register,
         z: st.z,

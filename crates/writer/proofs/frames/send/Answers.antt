@@ -11,7 +11,7 @@ use Rattle.writer.proofs.frames.send.Goals as goal
 pub counts_of-counts-requires : goal.counts_of-counts-requires
 counts_of-counts-requires c =
     let sound = accepted-sound c.args.st.asked c.args.c c.requires.worked in
-    rw c.rings_of_shaping.ensures (record { low = sound.rings.some; high = sound.rings.most })
+    rw c.rings.ensures (record { low = sound.rings.some; high = sound.rings.most })
 
 pub loop-frame-init : goal.loop-frame-init
 loop-frame-init c =
@@ -30,10 +30,10 @@ loop-frame-init c =
 pub slice_bounds-send_frame-end : goal.slice_bounds-send_frame-end
 slice_bounds-send_frame-end c = step-there c.loop-frame.invariant.same c.loop-frame.invariant.sent c.in-Some.ensures.steps
 
-pub send_frame-moved-requires-clause-frame_sendable : goal.send_frame-moved-requires-clause-frame_sendable
-send_frame-moved-requires-clause-frame_sendable c =
+pub send_frame-moved-requires : goal.send_frame-moved-requires
+send_frame-moved-requires c =
     let sound = accepted-sound c.args.st.asked c.args.c c.requires.worked in
-    let counted = rw c.rings_of_shaping.ensures at c.counts_of-counts.ensures.of in
+    let counted = rw c.rings.ensures at c.counts_of-counts.ensures.of in
     step-sendable c.loop-frame.invariant.same c.loop-frame.invariant.sent c.in-Some.ensures.steps _ sound counted c.requires.binary
 
 pub loop-frame-preserved : goal.loop-frame-preserved
@@ -41,7 +41,7 @@ loop-frame-preserved c =
     let i = c.loop-frame.invariant in
     let step = c.in-Some.ensures.steps in
     let sound = accepted-sound c.args.st.asked c.args.c c.requires.worked in
-    let counted = rw c.rings_of_shaping.ensures at c.counts_of-counts.ensures.of in
+    let counted = rw c.rings.ensures at c.counts_of-counts.ensures.of in
     record {
       going = c.in-Some.ensures.goes.keeps;
       ends = tt;

@@ -26,28 +26,28 @@ pub value_at-s-requires : goal.value_at-s-requires
 unfolding frame_length
 value_at-s-requires c =
     let a = c.args in
-    let p = c.requires.frame_sendable in
+    let p = c.requires in
     let front = front_scrambled _ _ _ _ _ _ c.scramble_part-register.ensures in
     let long = ap length front ∙ length-scramble a.role a.before.register a.bits.now in
     (omega (arith, long, p.size), p.limits.few, rw front (bits-scramble _ _ _))
 
-pub rings_of-rings-requires-clause-s_bound : goal.rings_of-rings-requires-clause-s_bound
-rings_of-rings-requires-clause-s_bound c =
+pub rings_of-rings-requires : goal.rings_of-rings-requires
+rings_of-rings-requires c =
     let a = c.args in
     number-below a.shape.shell _ _ _ _ (front_scrambled _ _ _ _ _ _ c.scramble_part-register.ensures) c.value_at-s.ensures
-    (bits-scramble a.role a.before.register a.bits.now) c.requires.frame_sendable.room
+    (bits-scramble a.role a.before.register a.bits.now) c.requires.room
 
 pub write_frame-z-requires : goal.write_frame-z-requires
 write_frame-z-requires c =
     let a = c.args in
-    let p = c.requires.frame_sendable in
+    let p = c.requires in
     let front = front_scrambled _ _ _ _ _ _ c.scramble_part-register.ensures in
     record {
       limits = p.limits;
       turn = p.turn;
       small =
           rw c.rings_of-rings.ensures
-          (rings-small _ _ c.requires.rows.eights.known.high
+          (rings-small _ _ c.args.counts.now.rows.eights.known.high
           (number-below a.shape.shell _ _ _ _ front c.value_at-s.ensures (bits-scramble a.role a.before.register a.bits.now) p.room));
       binary = rw front (bits-scramble _ _ _);
       size = ap length front ∙ length-scramble _ _ _ ∙ p.size;
