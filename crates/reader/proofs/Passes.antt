@@ -1,6 +1,6 @@
 -- A data frame's labels, mapping frame by mapping frame, as the reader's passes meet them: the sixteen labels of a frame are lent in
 -- part, their ranges follow from those of all, and what is left to test after a frame is the test of the others. Assumes nothing.
-use mathlib.Core.Bool.{Bool, true, ◌&&◌}
+use mathlib.Core.Bool.{Bool, true, not, ◌&&◌}
 use mathlib.Core.List.{List, ◌++◌}
 use mathlib.Core.Logic.{◌⊎◌, inl, inr}
 use mathlib.Core.Path.{◌≡◌, refl, sym, ap, subst, ◌∙◌}
@@ -23,6 +23,8 @@ use Rattle.frame.specs.declared.shape.Shape.{Shape}
 use Rattle.frame.specs.Reading.{in_range, number_fits, steps_fit, frame_read_turned}
 use Rattle.coder.specs.declared.states.State.{State}
 use Rattle.coder.specs.State.{worked_in}
+use Rattle.coder.specs.Answers.{exact}
+use Rattle.coder.proofs.Acceptance.{passes-exact}
 use Rattle.reader.specs.Requires.{Settled, Ranging}
 use Rattle.frame.specs.Next.{shape_next}
 use Rattle.frame.specs.Requires as requires
@@ -42,6 +44,10 @@ sound_of {c} e = accepted-sound e.asked c e.worked
 -- and so are those of a state
 pub settled_in : (st : State) (c : Settings) → worked_in st ≡ Accepted c → Settled c
 settled_in st c e = record { asked = st.asked; worked = e }
+
+-- where the lengths are exact, there are all labels
+pub counted_in : (c : Settings) (lent count : ℕ) → exact c lent count ≡ true → count ≡ 16 * c.frames
+counted_in c lent count exactly = (passes-exact c lent count (ap not exactly)).1
 
 -- The labels of a data frame.
 module _ (labels : List ℕ) where
@@ -135,9 +141,13 @@ module _ {labels : List ℕ} {left : ChunksExact ℕ} {k : ℕ} (h : Sixteens la
       (P : ℕ) → length labels ≡ 16 * P → (sixteen : Bor (List ℕ)) (next : ChunksExact ℕ)
       → chunks_exact_steps left (Some sixteen) next → k < P
   sixteens-more P count sixteen next step =
-      omega
-      (arith, ap length (sixteen-first sixteen next step), sixteen-long sixteen next step, length-drop (16 * k) labels,
-      length-append sixteen.now (chunks_exact_rest next))
+      omega (
+        arith,
+        ap length (sixteen-first sixteen next step),
+        sixteen-long sixteen next step,
+        length-drop (16 * k) labels,
+        length-append sixteen.now (chunks_exact_rest next),
+      )
 
   -- and no frame is left where none come
   pub sixteens_end :

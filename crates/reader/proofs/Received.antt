@@ -4,15 +4,13 @@ use mathlib.Core.List.{List, ◌++◌, append-nil}
 use mathlib.Core.Path.{◌≡◌, sym, ap, ◌∙◌}
 use Prim.Native.Nat.{ℕ, ◌≤◌}
 use native.Mathlib.Omega.{arith}
-use lib.ListN.{length, take, drop, drop_of_length-le}
+use lib.ListN.{length, take, drop_of_length-le}
 use lib.Seq.{take_at}
-use Rattle.bits.specs.Digits.{Bits}
 use Rattle.frame.specs.declared.shape.Shape.{Shape}
 use Rattle.frame.specs.Reading.{bits_read, frame_read, frame_read_turned}
 use Rattle.frame.proofs.Accepted.{Accepted, accepted}
 use Rattle.scrambler.specs.Parts.{Descrambled}
 use Rattle.scrambler.specs.Requires.{Part}
-use Rattle.scrambler.specs.Scrambler.{descramble, push_all}
 use Rattle.coder.specs.declared.states.Moved.{Moved}
 use Rattle.reader.specs.OneFrame.{FrameReceived}
 use Rattle.reader.specs.Requires.{FrameReceivable}

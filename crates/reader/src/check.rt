@@ -1,5 +1,6 @@
 // The tests of the reader, one for each refusal, each over the whole data frame, and the refusals in their order.
-ghost use Rattle.std.specs.Prelude.{true, false, ◌≡◌, ℕ, ◌≤◌, MatchOption};
+ghost use Rattle.std.specs.Prelude.{true, false, ◌≡◌, ℕ, ◌≤◌, MatchOption, IfOk};
+ghost use Rattle.refusals.specs.Numbers.{code};
 ghost use Rattle.line.specs.Worked.{Accepted};
 ghost use Rattle.coder.specs.Answers.{read_refusal};
 ghost use Rattle.reader.specs.OneFrame.{Ranked};
@@ -8,13 +9,14 @@ ghost use Rattle.coder.specs.Receiving.{receiving_of, all_in_range, numbers_fit,
 ghost use Rattle.coder.specs.Sending.{ring_count};
 ghost use Rattle.coder.specs.State.{worked_in};
 
-use coder::answers::{is_exact, is_unfit};
+use coder::answers::is_exact;
 use coder::states::State;
 use counts::Counts;
 use frame::check::{in_range, number_fits, steps_fit};
 use frame::read::{label_at, rings_read};
 use line::Settings;
 use mapping_frames::Frames;
+use refusals::Refusal;
 use rings::number_of;
 
 // Refusal 10: whether all labels are in their ranges.
@@ -66,4 +68,37 @@ fn steps_all_fit(c: Settings, z: u64, labels: &[u16]) -> bool
         turned = label_at(sixteen, 14);
     }
     true
+}
+
+// The reader's refusal where the settings are accepted: each test is of the whole data frame. Where none refuses, the numbers of the frames'
+// rings are answered.
+#[tactic(auto, using(std::proofs::lemmas::Bool::Decides::nat_tests), unfolding(laws::specs::Choice::refusal))]
+pub fn test(
+    c: Settings,
+    counts: &Counts,
+    st: State,
+    labels: &[u16],
+    lent: usize,
+) -> Result<[u64; 16], Refusal>
+    requires st_value { worked_in st ≡ Accepted c }
+    requires counted { counts.now.m ≡ ring_count c }
+    ensures refusal { code result ≡ read_refusal (Accepted c) st labels.now lent }
+    ensures ranked { IfOk result (λ numbers. Ranked c labels.now numbers) }
+{
+    if st.is_unfit() {
+        return Err(Refusal::UnfitState);
+    }
+    if !is_exact(c, lent, labels.len()) {
+        return Err(Refusal::WrongLength);
+    }
+    if !all_in_range(c, labels) {
+        return Err(Refusal::OutOfRange);
+    }
+    let Some(numbers) = numbers_of(c, counts, labels) else {
+        return Err(Refusal::UnsentRings);
+    };
+    if !steps_all_fit(c, st.z, labels) {
+        return Err(Refusal::UnsentStep);
+    }
+    Ok(numbers)
 }

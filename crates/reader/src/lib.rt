@@ -8,7 +8,7 @@
 #![tactic(auto)]
 
 pub mod check;
-
+pub mod entry;
 pub mod frames;
 
-
+pub use entry::read;

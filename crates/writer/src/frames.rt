@@ -10,8 +10,8 @@ use coder::states::{Moved, State};
 use counts::{Counts, counts_of};
 use frame::shape::Shape;
 use frame::write::write_frame;
-use mapping_frames::Frames;
 use line::Settings;
+use mapping_frames::Frames;
 use rings::rings_of;
 use scrambler::scramble_part;
 

@@ -1,6 +1,5 @@
 -- `reader::check::all_in_range` meets its contract: each sixteen labels are those of the next frame.
 use mathlib.Core.Path.{sym, ◌∙◌}
-use Prim.Native.Nat.{◌+◌, ◌*◌, ◌-◌, ◌≤◌, ◌<◌}
 use native.Mathlib.Nat.{sub-zero}
 use native.Mathlib.Omega.{arith}
 use lib.ListN.{length}
@@ -34,8 +33,8 @@ returns-then-not-in_range c =
     let step = c.in-Some.ensures.steps in
     let sixteen = c.in-Some.sixteen in
     let turn =
-        range-turn c.args.labels.now c.args.c.frames c.requires.count c.rings-m.result c.args.c.uncoded _ _ _
-        (sixteens-more i.left _ c.requires.count sixteen c.next.new.self step) (sixteen_is i.left sixteen c.next.new.self step) c.in_range.ensures in
+    range-turn c.args.labels.now c.args.c.frames c.requires.count c.rings-m.result c.args.c.uncoded _ _ _
+    (sixteens-more i.left _ c.requires.count sixteen c.next.new.self step) (sixteen_is i.left sixteen c.next.new.self step) c.in_range.ensures in
     sym (rw (c.rings-m.ensures, c.if-not-in_range.true) at (sym i.passes ∙ turn))
 
 pub loop-sixteen-preserved : goal.loop-sixteen-preserved
@@ -45,8 +44,8 @@ loop-sixteen-preserved c =
     let sixteen = c.in-Some.sixteen in
     let more = sixteens-more i.left _ c.requires.count sixteen c.next.new.self step in
     let turn =
-        range-turn c.args.labels.now c.args.c.frames c.requires.count c.rings-m.result c.args.c.uncoded _ _ _
-        more (sixteen_is i.left sixteen c.next.new.self step) c.in_range.ensures in
+    range-turn c.args.labels.now c.args.c.frames c.requires.count c.rings-m.result c.args.c.uncoded _ _ _
+    more (sixteen_is i.left sixteen c.next.new.self step) c.in_range.ensures in
     rw (length_push c.loop-sixteen.yielded c.in-Some.sixteen)
     (record {
       going = c.in-Some.ensures.goes.keeps;

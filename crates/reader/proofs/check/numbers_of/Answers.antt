@@ -1,10 +1,8 @@
 -- `reader::check::numbers_of` meets its contract: each frame comes with its sixteen labels, and its rings are ranked once.
-use mathlib.Core.Path.{refl, sym, ap, ◌∙◌}
-use Prim.Native.Nat.{ℕ, ◌+◌, ◌-◌, ◌≤◌, ◌<◌}
+use mathlib.Core.Path.{refl, sym, ◌∙◌}
 use native.Mathlib.Nat.{sub-zero}
 use native.Mathlib.Omega.{arith}
 use Rattle.std.specs.Iterator.Adapters.{zip_first, zip_second}
-use Rattle.frame.specs.Reading.{rings_read}
 use Rattle.reader.proofs.Passes.{sound_of, sixteen_is, paired_none, paired-more, paired-shape, paired-next, paired_end}
 use Rattle.reader.proofs.Passes.{ranging_frame, rings-taken, paired-number, number_none, number-any}
 use Rattle.reader.proofs.Ranking.{ranked_none, ranked-more, ranked-all, taken-below, taken-number, number-fits_is}
@@ -17,9 +15,9 @@ loop-frame-init c =
     let all = zip.first ∙ c.of.ensures in
     let sixteens = zip.second in
     let left =
-        paired_none c.args.c c.args.labels.now (zip_first c.zip-frame-items.result) (zip_second c.zip-frame-items.result)
-        (sound_of c.requires.ranging.settled) all
-        (rw sixteens chunks.size) (rw sixteens chunks.rest) in
+    paired_none c.args.c c.args.labels.now (zip_first c.zip-frame-items.result) (zip_second c.zip-frame-items.result)
+    (sound_of c.requires.ranging.settled) all
+    (rw sixteens chunks.size) (rw sixteens chunks.rest) in
     rw c.into_iter-frame-iterator.ensures.into_iter_gives
     (record {
       going = (left.going, omega (arith, left.sixteens.size));
@@ -52,8 +50,8 @@ returns-then-not-number_fits c =
     let here = sixteen_is i.left.sixteens c.in-Some.sixteen (zip_second c.next.new.self) step.1 in
     let number = c.number_of-number.ensures ∙ taken-number a.c a.labels.now _ _ _ c.requires.counted (rw here at c.rings_read.ensures) in
     let fits =
-        number-fits_is a.c (sound_of c.requires.ranging.settled) a.labels.now _ _ _ _ _ (paired-shape i.left step.0) number
-        c.number_fits.ensures in
+    number-fits_is a.c (sound_of c.requires.ranging.settled) a.labels.now _ _ _ _ _ (paired-shape i.left step.0) number
+    c.number_fits.ensures in
     let turn = paired-number i.left step.0 _ fits in
     λ z. number-any a.c a.c.frames a.labels.now 0 z 0 ∙ (rw c.if-not-number_fits.true at (sym i.passes ∙ turn))
 

@@ -1,6 +1,5 @@
 -- `reader::check::steps_all_fit` meets its contract: each frame comes with its sixteen labels, and the last Z of these is the next one's.
-use mathlib.Core.Path.{refl, sym, ap, ◌∙◌}
-use Prim.Native.Nat.{ℕ, ◌+◌, ◌-◌, ◌≤◌, ◌<◌}
+use mathlib.Core.Path.{refl, sym, ◌∙◌}
 use native.Mathlib.Nat.{sub-zero}
 use native.Mathlib.Omega.{arith}
 use Rattle.std.specs.Iterator.Adapters.{zip_first, zip_second}
@@ -15,9 +14,9 @@ loop-frame-init c =
     let all = zip.first ∙ c.of.ensures in
     let sixteens = zip.second in
     let left =
-        paired_none c.args.c c.args.labels.now (zip_first c.zip-frame-items.result) (zip_second c.zip-frame-items.result)
-        (sound_of c.requires.ranging.settled) all
-        (rw sixteens chunks.size) (rw sixteens chunks.rest) in
+    paired_none c.args.c c.args.labels.now (zip_first c.zip-frame-items.result) (zip_second c.zip-frame-items.result)
+    (sound_of c.requires.ranging.settled) all
+    (rw sixteens chunks.size) (rw sixteens chunks.rest) in
     rw c.into_iter-frame-iterator.ensures.into_iter_gives
     (record {
       going = (left.going, omega (arith, left.sixteens.size));

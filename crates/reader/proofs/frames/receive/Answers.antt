@@ -14,9 +14,9 @@ loop-frame-init c =
     let all = zip.first ∙ c.of.ensures in
     let sixteens = zip.second in
     let left =
-        paired_none c.args.c c.args.labels.now (zip_first c.zip-frame-items.result) (zip_second c.zip-frame-items.result)
-        (sound_of (settled_in c.args.st _ c.requires.receivable.worked)) all
-        (rw sixteens chunks.size) (rw sixteens chunks.rest) in
+    paired_none c.args.c c.args.labels.now (zip_first c.zip-frame-items.result) (zip_second c.zip-frame-items.result)
+    (sound_of (settled_in c.args.st _ c.requires.receivable.worked)) all
+    (rw sixteens chunks.size) (rw sixteens chunks.rest) in
     rw c.into_iter-frame-iterator.ensures.into_iter_gives
     (record {
       going = (left.going, omega (arith, left.sixteens.size));

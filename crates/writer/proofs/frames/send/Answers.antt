@@ -1,8 +1,8 @@
 -- `writer::frames::send` meets its contract: each step gives the next mapping frame, and its labels are put behind those of the others.
-use mathlib.Core.Path.{◌≡◌, refl, ◌∙◌}
+use mathlib.Core.Path.{refl, ◌∙◌}
 use Prim.Native.Nat.{◌≤◌}
 use native.Mathlib.Omega.{arith}
-use Rattle.line.proofs.Soundness.{Sound, accepted-sound}
+use Rattle.line.proofs.Soundness.{accepted-sound}
 use Rattle.mapping_frames.proofs.Goes.{going_none}
 use Rattle.writer.proofs.Sends.{part-sent_none, step-there, step-sendable, step-sent}
 use Rattle.writer.proofs.Sends.{part-sent-labels, part-sent-register, part-sent-turned}

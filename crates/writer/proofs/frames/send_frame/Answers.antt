@@ -1,7 +1,7 @@
 -- `writer::frames::send_frame` meets its contract: the front of the space is the scrambled bits, S of these gives the rings, and the frame
 -- is written from both. Assumes nothing.
 use mathlib.Core.List.{List}
-use mathlib.Core.Path.{◌≡◌, sym, ap, ◌∙◌}
+use mathlib.Core.Path.{◌≡◌, ap, ◌∙◌}
 use Prim.Native.Nat.{ℕ, ◌^◌, ◌≤◌, ◌<◌}
 use native.Mathlib.Omega.{arith}
 use lib.ListN.{length, take}
@@ -11,7 +11,6 @@ use Rattle.listing.specs.Number.{rings_of}
 use Rattle.listing.specs.Sets.{as_list}
 use Rattle.frame.specs.Shape.{frame_length}
 use Rattle.frame.specs.Writing.{frame_labels, frame_turned}
-use Rattle.scrambler.specs.Scrambler.{scramble}
 use Rattle.scrambler.proofs.Inverse.{length-scramble, bits-scramble}
 use Rattle.writer.proofs.Sends.{front_scrambled, rings-small}
 use Rattle.writer.proofs.frames.send_frame.Goals as goal
