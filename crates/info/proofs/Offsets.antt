@@ -12,6 +12,7 @@ use lib.Ieee.{binary64, div, of_int}
 use lib.ListN.{length, get_or, take, drop, length-drop}
 use lib.Seq.{take-suc, length-take-le, get_or-drop}
 use borrow.Author.Tests.{eqb-true, eqb-false}
+use Rattle.std.specs.Prelude.{Some, None}
 use Rattle.bits.specs.Digits.{value, Bits}
 use Rattle.bits.proofs.Digitals.{bits-take, bits-drop, bits_at}
 use Rattle.sequences.specs.Picture.{fixed, places}
@@ -20,12 +21,10 @@ use Rattle.sequences.specs.Table.{fields_in}
 use Rattle.sequences.proofs.Sequences.{reads}
 use Rattle.offset.specs.Hertz.{reading_of}
 use Rattle.offset.specs.Signed.{signed}
-use Rattle.offset.specs.declared.reading.Reading.TheVariants.{Hertz, Blank}
 use Rattle.offset.proofs.Readings.{blank_exactly, reading_exactly}
 use Rattle.offset.proofs.Signs.{sign_bit}
 use Rattle.info.specs.Frame.{fill, sync, framed}
-use Rattle.info.specs.Info1c.{block, info1c, count_of, report}
-use Rattle.info.specs.declared.info1c.Report.{Report}
+use Rattle.info.specs.Info1c.{block, info1c, count_of, Report, report}
 use Rattle.info.proofs.Reports.{report-read, report-refused}
 
 module _ (bits : List ℕ) (read : (report bits).refusal ≡ 0) where
@@ -67,18 +66,18 @@ module _ (bits : List ℕ) (read : (report bits).refusal ≡ 0) where
   -- one division
   pub divided_once :
       ((report bits).count ≡ negsuc 511 → ⊥)
-      → (report bits).reading ≡ Hertz (div binary64 (of_int binary64 (report bits).count) (of_int binary64 (pos 50)))
+      → (report bits).reading ≡ Some (div binary64 (of_int binary64 (report bits).count) (of_int binary64 (pos 50)))
   divided_once other = reading_of-count ∙ reading_exactly (report bits).count other
 
 -- no reading exactly for a refused report and for −512
 pub no_reading_exactly :
-    (bits : List ℕ) → ((report bits).reading ≡ Blank) ↔ (((report bits).refusal ≡ 0 → ⊥) ⊎ ((report bits).count ≡ negsuc 511))
+    (bits : List ℕ) → ((report bits).reading ≡ None) ↔ (((report bits).refusal ≡ 0 → ⊥) ⊎ ((report bits).count ≡ negsuc 511))
 no_reading_exactly bits = (there, back)
   where
     Without : Type 0
     Without = ((report bits).refusal ≡ 0 → ⊥) ⊎ ((report bits).count ≡ negsuc 511)
 
-    there : (report bits).reading ≡ Blank → Without
+    there : (report bits).reading ≡ None → Without
     there blank = by (eqb (fields_refusal info1c bits) 0) refl
       where
         by : (v : Bool) → eqb (fields_refusal info1c bits) 0 ≡ v → Without
@@ -87,10 +86,10 @@ no_reading_exactly bits = (there, back)
             inr ((blank_exactly (report bits).count).0 (sym (reading_of-count bits read) ∙ blank))
         by false e = inl (eqb-false (fields_refusal info1c bits) 0 e)
 
-    back : Without → (report bits).reading ≡ Blank
+    back : Without → (report bits).reading ≡ None
     back (inl refused) = ap (λ (r : Report). r.reading) (report-refused bits refused)
     back (inr e) = by (eqb (fields_refusal info1c bits) 0) refl
       where
-        by : (v : Bool) → eqb (fields_refusal info1c bits) 0 ≡ v → (report bits).reading ≡ Blank
+        by : (v : Bool) → eqb (fields_refusal info1c bits) 0 ≡ v → (report bits).reading ≡ None
         by true t = reading_of-count bits (eqb-true (fields_refusal info1c bits) 0 t) ∙ (blank_exactly (report bits).count).1 e
         by false f = ap (λ (r : Report). r.reading) (report-refused bits (eqb-false (fields_refusal info1c bits) 0 f))

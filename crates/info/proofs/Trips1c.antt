@@ -10,10 +10,9 @@ use Rattle.sequences.specs.Sequence.{SequenceAnswer}
 use Rattle.sequences.proofs.Named.{printed-back, read_back, written_back}
 use Rattle.sequences.proofs.Trips.{sequence-once}
 use Rattle.info.specs.Frame.{fill, sync, framed}
-use Rattle.info.specs.Info1c.{info1c, numbers_of, count_bits, report}
+use Rattle.info.specs.Info1c.{info1c, numbers_of, count_bits, report, Report}
 use Rattle.info.specs.Table15.{Sayable, sequence15}
 use Rattle.info.specs.declared.info1c.Info1c.{Info1c}
-use Rattle.info.specs.declared.info1c.Report.{Report}
 use Rattle.info.proofs.Rows15.{Said, numbers_said, said_by, MaySay, sequence_said, printed15}
 
 -- a report without a refusal, that says this

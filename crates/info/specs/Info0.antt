@@ -1,6 +1,7 @@
 -- INFO0 (V.34, Table 14): the frame around seventeen bits, and what these say. `up_to first width most` is a field of so many bits from the
 -- first one on, lowest weight first, that may be 0 to the most.
-use Rattle.std.specs.Prelude.{List, [], ◌∷◌, ℕ}
+use Rattle.std.specs.Prelude.{List, [], ◌∷◌, ℕ, Result, Ok, Err, replicate}
+use Rattle.refusals.specs.declared.Refusal.{Refusal}
 use Rattle.sequences.specs.Sequence.{Sequence}
 use Rattle.sequences.specs.Table.{up_to}
 use Rattle.info.specs.Frame.{framed}
@@ -46,3 +47,8 @@ numbers_of f =
     ∷ f.clock
     ∷ f.acknowledged
     ∷ []
+
+-- what is told of the reader's outcome: zeros after a refusal
+abbrev pub numbers_told : Result Info0 Refusal → List ℕ
+numbers_told (Ok f) = numbers_of f
+numbers_told (Err refusal) = replicate 14 0

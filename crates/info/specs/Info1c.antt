@@ -1,17 +1,18 @@
 -- INFO1c (V.34, Table 15): the frame around 77 bits, and what these say. `up_to first width most` is a field of so many bits from the first
 -- one on, lowest weight first, that may be 0 to the most. The last field is the count of the frequency offset, as the number of its ten
 -- bits.
-use Rattle.std.specs.Prelude.{cond, List, [], ◌∷◌, ◌++◌, ℕ, ◌+◌, eqb, ℤ, get_or}
+use Rattle.std.specs.Prelude.{cond, List, [], ◌∷◌, ◌++◌, ℕ, ◌+◌, eqb, ℤ, pos, get_or, replicate, Float, Option, None, Result, Ok, Err}
+use Rattle.refusals.specs.Numbers.{number}
+use Rattle.refusals.specs.declared.Refusal.{Refusal}
 use Rattle.sequences.specs.Sequence.{Sequence, fields_refusal, fields_read}
 use Rattle.sequences.specs.declared.Field.{Field}
 use Rattle.sequences.specs.Table.{up_to}
 use Rattle.offset.specs.Hertz.{reading_of}
 use Rattle.offset.specs.Signed.{signed, unsigned}
-use Rattle.offset.specs.declared.reading.Reading.TheVariants.{Blank}
 use Rattle.info.specs.Frame.{framed}
 use Rattle.info.specs.declared.info1c.Block.{Block}
 use Rattle.info.specs.declared.info1c.Info1c.{Info1c}
-use Rattle.info.specs.declared.info1c.Report.{Report}
+use Rattle.info.specs.declared.info1c.Report.{Report as Heard}
 
 -- the block of a symbol rate, nine bits
 unfoldable pub block : ℕ → List Field
@@ -83,6 +84,13 @@ count_of numbers = signed 512 (get_or numbers 21 0)
 abbrev pub count_bits : ℤ → ℕ
 count_bits count = unsigned 512 count
 
+-- What the reader says: a refusal number, the fields, the count, and the reading, if there is one.
+pub record Report : Type 0 where
+  pub refusal : ℕ
+  pub fields : Info1c
+  pub count : ℤ
+  pub reading : Option Float
+
 -- The report of the reader, from its refusal number and the numbers of the fields, which are zeros after a refusal. Then there is no
 -- reading either: a blank is not 0 Hz.
 abbrev pub report_of : ℕ → List ℕ → Report
@@ -91,8 +99,13 @@ report_of refusal numbers =
       refusal = refusal;
       fields = fields_of numbers;
       count = count_of numbers;
-      reading = cond (eqb refusal 0) (reading_of (count_of numbers)) Blank;
+      reading = cond (eqb refusal 0) (reading_of (count_of numbers)) None;
     }
 
 abbrev pub report : List ℕ → Report
 report bits = report_of (fields_refusal info1c bits) (fields_read info1c bits)
+
+-- what is told of the reader's outcome
+abbrev pub told : Result Heard Refusal → Report
+told (Ok r) = record { refusal = 0; fields = r.fields; count = r.count; reading = r.reading }
+told (Err r) = record { refusal = number r; fields = fields_of (replicate 22 0); count = pos 0; reading = None }

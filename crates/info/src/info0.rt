@@ -1,33 +1,41 @@
 // INFO0 (V.34, Table 14): 49 bits, 14 fields.
 ghost use Rattle.std.specs.Prelude.{◌≡◌};
+ghost use Rattle.refusals.specs.Numbers.{code};
 ghost use Rattle.sequences.specs.Sequence.{FieldsAnswer, SequenceAnswer};
-ghost use Rattle.info.specs.Info0.{info0, numbers_of};
+ghost use Rattle.info.specs.Info0.{info0, numbers_of, numbers_told};
 
-use fields::sequence::{read_sequence, write_sequence};
+use fields::sequence::Layout;
+use refusals::Refusal;
+use sequences::{Field, field};
 
 // Fill, sync, seventeen bits of fields, sixteen of their check, fill.
 const PICTURE: [u8; 49] = *b"111101110010.................................1111";
 
-// First bit, width, least and most of each field, as crate `fields` has it.
-const TABLE: [u64; 14] = [
-    012_01_0_00001, // support of 2743
-    013_01_0_00001, // support of 2800
-    014_01_0_00001, // support of 3429
-    015_01_0_00001, // low carrier at 3000
-    016_01_0_00001, // high carrier at 3000
-    017_01_0_00001, // low carrier at 3200
-    018_01_0_00001, // high carrier at 3200
-    019_01_0_00001, // 3429 not disabled
-    020_01_0_00001, // power reduction
-    021_03_0_00005, // largest difference of symbol rates
-    024_01_0_00001, // CME
-    025_01_0_00001, // the mark
-    026_02_0_00002, // clock source
-    028_01_0_00001, // acknowledgement
+// First bit, width, least and most of each field.
+const TABLE: [Field; 14] = [
+    field!(12, 1, 0..=1), // support of 2743
+    field!(13, 1, 0..=1), // support of 2800
+    field!(14, 1, 0..=1), // support of 3429
+    field!(15, 1, 0..=1), // low carrier at 3000
+    field!(16, 1, 0..=1), // high carrier at 3000
+    field!(17, 1, 0..=1), // low carrier at 3200
+    field!(18, 1, 0..=1), // high carrier at 3200
+    field!(19, 1, 0..=1), // 3429 not disabled
+    field!(20, 1, 0..=1), // power reduction
+    field!(21, 3, 0..=5), // largest difference of symbol rates
+    field!(24, 1, 0..=1), // CME
+    field!(25, 1, 0..=1), // the mark
+    field!(26, 2, 0..=2), // clock source
+    field!(28, 1, 0..=1), // acknowledgement
 ];
 
+const INFO0: Layout<49, 14, 33> = Layout {
+    picture: PICTURE,
+    table: TABLE,
+};
+
 // What an end says of itself. 1 is yes, unless the line says otherwise.
-#[derive(Clone, Copy)]
+#[derive(Clone, Copy, PartialEq, Eq)]
 pub struct Info0 {
     pub support_2743: u64, // bit 12: it supports the symbol rate 2743
     pub support_2800: u64, // bit 13: 2800
@@ -45,83 +53,64 @@ pub struct Info0 {
     pub acknowledged: u64, // bit 28: it has received an INFO0 well, in error recovery
 }
 
-// A refusal number, and the fields: zeros after a refusal.
-#[derive(Clone, Copy)]
-pub struct Info0Read {
-    pub refusal: u64,
-    pub fields: Info0,
-}
+// Numbers in the order of the table as fields, and back.
+impl From<[u64; 14]> for Info0 {
+    ghost from_gives = { λ numbers fields. numbers_of fields ≡ numbers };
 
-// Numbers in the order of the table as fields.
-pub fn fields_of(numbers: [u64; 14]) -> Info0
-    ensures { numbers_of result ≡ numbers }
-{
-    Info0 {
-        support_2743: numbers[0],
-        support_2800: numbers[1],
-        support_3429: numbers[2],
-        low_3000: numbers[3],
-        high_3000: numbers[4],
-        low_3200: numbers[5],
-        high_3200: numbers[6],
-        allowed_3429: numbers[7],
-        reduction: numbers[8],
-        difference: numbers[9],
-        cme: numbers[10],
-        mark: numbers[11],
-        clock: numbers[12],
-        acknowledged: numbers[13],
+    fn from(numbers: [u64; 14]) -> Info0 {
+        Info0 {
+            support_2743: numbers[0],
+            support_2800: numbers[1],
+            support_3429: numbers[2],
+            low_3000: numbers[3],
+            high_3000: numbers[4],
+            low_3200: numbers[5],
+            high_3200: numbers[6],
+            allowed_3429: numbers[7],
+            reduction: numbers[8],
+            difference: numbers[9],
+            cme: numbers[10],
+            mark: numbers[11],
+            clock: numbers[12],
+            acknowledged: numbers[13],
+        }
     }
 }
 
-// Fields as numbers in the order of the table.
-pub fn numbers_of(fields: Info0) -> [u64; 14]
-    ensures { result ≡ numbers_of fields }
-{
-    [
-        fields.support_2743,
-        fields.support_2800,
-        fields.support_3429,
-        fields.low_3000,
-        fields.high_3000,
-        fields.low_3200,
-        fields.high_3200,
-        fields.allowed_3429,
-        fields.reduction,
-        fields.difference,
-        fields.cme,
-        fields.mark,
-        fields.clock,
-        fields.acknowledged,
-    ]
+impl From<Info0> for [u64; 14] {
+    ghost from_gives = { λ fields numbers. numbers ≡ numbers_of fields };
+
+    fn from(fields: Info0) -> [u64; 14] {
+        [
+            fields.support_2743,
+            fields.support_2800,
+            fields.support_3429,
+            fields.low_3000,
+            fields.high_3000,
+            fields.low_3200,
+            fields.high_3200,
+            fields.allowed_3429,
+            fields.reduction,
+            fields.difference,
+            fields.cme,
+            fields.mark,
+            fields.clock,
+            fields.acknowledged,
+        ]
+    }
 }
 
 // The fields of a sequence that was received.
-pub fn read(bits: &[u8]) -> Info0Read
-    ensures { FieldsAnswer info0 bits.now result.refusal (numbers_of result.fields) }
+pub fn read(bits: &[u8]) -> Result<Info0, Refusal>
+    ensures { FieldsAnswer info0 bits.now (code result) (numbers_told result) }
 {
-    let mut body = [0u8; 33];
-    let mut numbers = [0u64; 14];
-    let refusal = read_sequence(&PICTURE, &TABLE, bits, &mut body, &mut numbers);
-    if refusal != 0 {
-        let none = fields_of([0u64; 14]);
-        return Info0Read {
-            refusal,
-            fields: none,
-        };
-    }
-    let found = fields_of(numbers);
-    Info0Read {
-        refusal: 0,
-        fields: found,
-    }
+    let numbers = INFO0.read_sequence(bits)?;
+    Ok(Info0::from(numbers))
 }
 
 // The sequence of some fields, into a slice of 49 bytes.
-pub fn write(fields: Info0, lent: &mut [u8]) -> u64
-    ensures { SequenceAnswer info0 (numbers_of fields) lent.old result lent.new }
+pub fn write(fields: Info0, lent: &mut [u8]) -> Result<(), Refusal>
+    ensures { SequenceAnswer info0 (numbers_of fields) lent.old (code result) lent.new }
 {
-    let mut body = [0u8; 33];
-    let numbers = numbers_of(fields);
-    write_sequence(&PICTURE, &TABLE, &numbers, &mut body, lent)
+    INFO0.write_sequence(&fields.into(), lent)
 }
