@@ -1,31 +1,12 @@
 -- What the work-out's result tells: the settings of the rate that s names where no refusal holds, and otherwise the first refusal. At most
 -- one result fits its contract, since no two refusals have the same number. Assumes nothing.
-use mathlib.Core.Path.{◌≡◌, refl, sym, ap, subst, ◌∙◌}
-use Prim.Native.Nat.{ℕ, ◌<◌}
+use mathlib.Core.Path.{◌≡◌, sym, ap, subst, ◌∙◌}
 use native.Mathlib.Omega.{arith}
 use borrow.Author.Tests.{ne_eqb}
-use Rattle.std.specs.Prelude.{Option, Some, Result, Ok, Err, List, [], ◌∷◌, get_or}
+use Rattle.std.specs.Prelude.{Option, Some, Result, Ok, Err}
 use Rattle.refusals.specs.declared.Refusal.{Refusal}
-use Rattle.refusals.specs.declared.Refusal.TheVariants.{
-  UnknownRole,
-  UnknownRate,
-  DataRateOutOfRange,
-  UnknownShaping,
-  UnstatedMark,
-  DeniedDataRate,
-  UnfitState,
-  WrongLength,
-  NotABit,
-  OutOfRange,
-  UnsentRings,
-  UnsentStep,
-  NotPermitted,
-  NumberTooLarge,
-  WrongPicture,
-  WrongCheck,
-  FieldOutOfRange,
-}
 use Rattle.refusals.specs.Numbers.{number}
+use Rattle.refusals.proofs.Once.{numbered, number_once}
 use Rattle.line.specs.declared.asked.Asked.{Asked}
 use Rattle.line.specs.declared.rate.SymbolRate.{SymbolRate}
 use Rattle.line.specs.declared.settings.Settings.{Settings}
@@ -35,47 +16,6 @@ use Rattle.line.specs.Settings.{settings_refusal, settings_of, worked_of}
 use Rattle.line.specs.Worked.{Accepted, Refused, told}
 use Rattle.line.proofs.Acceptance.{Within, unrefused_right, unrefused_is, known-accepted}
 use Rattle.line.proofs.Rows.{in-range}
-
--- no refusal has the number 0
-numbered : (refusal : Refusal) → 0 < number refusal
-numbered UnknownRole = omega arith
-numbered _ = omega arith
-
--- the refusals by number; none has 0 or 15, and the first stands for it there
-named : ℕ → Refusal
-named number = get_or names number UnknownRole
-  where
-    names : List Refusal
-    names =
-        UnknownRole
-        ∷ UnknownRole
-        ∷ UnknownRate
-        ∷ DataRateOutOfRange
-        ∷ UnknownShaping
-        ∷ UnstatedMark
-        ∷ DeniedDataRate
-        ∷ UnfitState
-        ∷ WrongLength
-        ∷ NotABit
-        ∷ OutOfRange
-        ∷ UnsentRings
-        ∷ UnsentStep
-        ∷ NotPermitted
-        ∷ NumberTooLarge
-        ∷ UnknownRole
-        ∷ WrongPicture
-        ∷ WrongCheck
-        ∷ FieldOutOfRange
-        ∷ []
-
-named-number : (refusal : Refusal) → named (number refusal) ≡ refusal
-unfolding named
-named-number UnknownRole = refl
-named-number _ = refl
-
--- so no two have the same
-number_once : (q r : Refusal) → number q ≡ number r → q ≡ r
-number_once q r e = sym (named-number q) ∙ ap named e ∙ named-number r
 
 -- at most one result tells the same
 pub told_once : (v w : Result Settings Refusal) → told v ≡ told w → v ≡ w
@@ -88,6 +28,7 @@ told_once (Err q) (Err r) e = let same : number q ≡ number r = cc in ap Err (n
 pub one_result : (asked : Asked) (v w : Result Settings Refusal) → told v ≡ worked_of asked → told w ≡ worked_of asked → v ≡ w
 one_result asked v w p q = told_once v w (p ∙ sym q)
 
+-- what is told where a refusal holds, and where none does
 pub refused-told : (asked : Asked) (refusal : Refusal) → number refusal ≡ settings_refusal asked → Refused (number refusal) ≡ worked_of asked
 unfolding worked_of
 refused-told asked refusal e = rw (← e, ne_eqb (number refusal) 0 (λ z. omega (arith, numbered refusal)))

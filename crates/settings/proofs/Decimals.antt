@@ -10,6 +10,7 @@ use native.Mathlib.Omega.{arith}
 use lib.ListN.{length, take, get_or, length-append, get_or-append}
 use lib.Seq.{length-take-le, take_all, take-suc}
 use borrow.Author.Tests.{ltb-true, ltb-false, lt-ltb, le-ltb}
+use Rattle.std.proofs.lemmas.Grind.{common_steps}
 use Rattle.laws.specs.Lists.{Every}
 use Rattle.laws.proofs.Counting.{every_append}
 use Rattle.laws.proofs.Counting.{every-left, every-right}
@@ -170,3 +171,18 @@ decimal-length (suc k) n h = go (one_digit n) refl (decimal-length k (n / 10) (o
     go : (v : Bool) → one_digit n ≡ v → length (decimal (n / 10)) ≤ suc k → length (decimal n) ≤ suc (suc k)
     go true e tenth = rw (decimal_digit n e) (omega arith)
     go false e tenth = omega (arith, one_digit_more n e)
+
+-- the two steps by which the code puts a number, and how long they make it
+pub decimal_lone : (n : ℕ) → n < 10 → decimal n ≡ (48 + n % 10) ∷ []
+decimal_lone n h = decimal_digit n (lt-ltb n 10 h) ∙ ap (λ (d : ℕ). (48 + d) ∷ []) (omega arith)
+
+pub decimal_tenth : (n : ℕ) → 10 ≤ n → decimal n ≡ decimal (n / 10) ++ (48 + n % 10) ∷ []
+decimal_tenth n h = decimal_step n (le-ltb n 10 h)
+
+pub lone-length : (n : ℕ) → n < 10 → length (decimal n) ≡ 1
+lone-length n h = ap length (decimal_lone n h)
+
+pub tenth-length : (n : ℕ) → 10 ≤ n → length (decimal n) ≡ length (decimal (n / 10)) + 1
+tenth-length n h = one_digit_more n (le-ltb n 10 h)
+
+pub ruleset steps = (common_steps, decimal_lone, decimal_tenth, lone-length, tenth-length)

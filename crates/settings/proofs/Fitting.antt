@@ -6,6 +6,7 @@ use mathlib.Core.Path.{◌≡◌, refl, ap}
 use Prim.Native.Nat.{ℕ, ◌+◌, ◌≤◌}
 use native.Mathlib.Omega.{arith}
 use lib.ListN.{length, length-append}
+use Rattle.std.proofs.lemmas.Grind.{common_steps}
 use Rattle.laws.specs.Lists.{Every}
 use Rattle.laws.proofs.Counting.{every-imp}
 use Rattle.line.specs.declared.asked.Asked.{Asked}
@@ -56,6 +57,15 @@ text-fits (Accepted c) z = omega (arith, joined-short (values_of (Accepted c)) (
 text-fits (Refused number) h =
     omega (arith, refused-length number, ap length (spaced_one number), short-length number (omega arith))
 
+-- the text of an answer leaves room for the line feed
+pub answer-fits : (input : List ℕ) → length (text_of (answer_of input)) ≤ 39
+answer-fits input = text-fits (answer_of input) (answer-limited input)
+
 pub line-fits : (input : List ℕ) → length (line_of input) ≤ 40
 unfolding line_of
-line-fits input = omega (arith, text-fits (answer_of input) (answer-limited input), ended-length (text_of (answer_of input)))
+line-fits input = omega (arith, answer-fits input, ended-length (text_of (answer_of input)))
+
+-- what the code that puts a text, and the line feed behind it, relies on
+pub ruleset texts = (common_steps, refused-length)
+
+pub ruleset lines = (common_steps, answer-fits)

@@ -3,10 +3,12 @@
 -- number is above 9999. Assumes nothing.
 use mathlib.Core.List.{List, [], ◌∷◌, ◌++◌, append-nil, append_assoc}
 use mathlib.Core.Path.{◌≡◌, refl, sym, ap, ◌∙◌}
-use Prim.Native.Nat.{ℕ, suc, ◌+◌, ◌*◌, ◌-◌, ◌≤◌, ◌<◌}
+use Prim.Native.Nat.{ℕ, ◌+◌, ◌*◌, ◌≤◌, ◌<◌}
+use native.Mathlib.Numerals.{add-one}
 use native.Mathlib.Omega.{arith}
 use lib.ListN.{length, take, drop, get_or, length-append, take-append-drop}
-use lib.Seq.{take_all, take-suc}
+use lib.Seq.{take-suc}
+use Rattle.std.proofs.lemmas.Grind.{common_steps}
 use Rattle.laws.specs.Lists.{Every}
 use Rattle.settings.specs.Decimal.{decimal}
 use Rattle.settings.specs.Lines.{spaced, joined}
@@ -29,8 +31,8 @@ spaced-append (m ∷ ms) ns =
 
 module _ (ns : List ℕ) (i : ℕ) (h : i < length ns) where
   -- the numbers up to one more
-  pub spaced-more : spaced (take (suc i) ns) ≡ spaced (take i ns) ++ spaced (get_or ns i 0 ∷ [])
-  spaced-more = ap spaced (take-suc ns i 0 h) ∙ spaced-append (take i ns) (get_or ns i 0 ∷ [])
+  pub spaced-more : spaced (take (i + 1) ns) ≡ spaced (take i ns) ++ spaced (get_or ns i 0 ∷ [])
+  spaced-more = rw add-one (ap spaced (take-suc ns i 0 h) ∙ spaced-append (take i ns) (get_or ns i 0 ∷ []))
 
   -- have room where all have
   pub spaced-room : length (spaced (take i ns)) + length (spaced (get_or ns i 0 ∷ [])) ≤ length (spaced ns)
@@ -39,21 +41,21 @@ module _ (ns : List ℕ) (i : ℕ) (h : i < length ns) where
         arith,
         ap length spaced-more,
         length-append (spaced (take i ns)) (spaced (get_or ns i 0 ∷ [])),
-        ap (λ (ms : List ℕ). length (spaced ms)) (take-append-drop (suc i) ns),
-        ap length (spaced-append (take (suc i) ns) (drop (suc i) ns)),
-        length-append (spaced (take (suc i) ns)) (spaced (drop (suc i) ns)),
+        ap (λ (ms : List ℕ). length (spaced ms)) (take-append-drop (i + 1) ns),
+        ap length (spaced-append (take (i + 1) ns) (drop (i + 1) ns)),
+        length-append (spaced (take (i + 1) ns)) (spaced (drop (i + 1) ns)),
       )
 
--- the first number, and the others behind it, as a part of a slice gives them
-pub joined_first : (ns : List ℕ) → 1 ≤ length ns → joined ns ≡ decimal (get_or ns 0 0) ++ spaced (take (length ns - 1) (drop 1 ns))
+-- the first number, and the others behind it
+pub joined_first : (n : ℕ) (ns : List ℕ) → joined (n ∷ ns) ≡ decimal n ++ spaced ns
 unfolding joined
-joined_first [] h = absurd (omega arith)
-joined_first (n ∷ ns) h = ap (λ (ms : List ℕ). decimal n ++ spaced ms) (sym (take_all (suc (length ns) - 1) ns (omega arith)))
+joined_first n ns = refl
 
-pub joined_length :
-    (ns : List ℕ) → 1 ≤ length ns
-    → length (joined ns) ≡ length (decimal (get_or ns 0 0)) + length (spaced (take (length ns - 1) (drop 1 ns)))
-joined_length ns h = ap length (joined_first ns h) ∙ length-append (decimal (get_or ns 0 0)) (spaced (take (length ns - 1) (drop 1 ns)))
+pub joined_none : joined [] ≡ []
+unfolding joined
+joined_none = refl
+
+pub ruleset pieces = (common_steps, spaced_none, spaced_one, spaced-more, spaced-room, joined_none, joined_first)
 
 -- numbers of at most four digits
 abbrev pub Short : ℕ → Type 0

@@ -35,7 +35,7 @@ fn read_full<R: Read>(input: &mut R, space: &mut [u8]) -> io::Result<usize>
 fn main(rt: HostRuntime) -> io::Result<()> {
     let mut input = [0u8; 4096];
     let read = read_full(&mut rt.stdin(), &mut input)?;
-    let mut line = [0u8; 40];
+    let mut line = [0u8; text::ROOM];
     let count = answer::answer(&input[..read], &mut line);
     rt.write_all(&line[..count])
 }

@@ -1,68 +1,99 @@
-// Text put into a lent line, piece by piece: each function puts its piece at a place, leaves the rest, and answers the next place.
-ghost use Rattle.std.specs.Prelude.{[], ◌∷◌, ◌+◌, ◌≤◌, ◌<◌, length};
-ghost use Rattle.laws.specs.Put.{Put};
+// The text of a line, put together piece by piece in fixed memory.
+ghost use Rattle.std.specs.Prelude.{[], ◌∷◌, ◌++◌, ◌≡◌, ◌+◌, ◌<◌, ◌≤◌, List, ℕ, length, take};
 ghost use Rattle.settings.specs.Decimal.{decimal};
 ghost use Rattle.settings.specs.Lines.{spaced, joined};
 
-// One byte.
-pub fn put_byte(line: &mut [u8], at: usize, byte: u8) -> usize
-    requires { at < length line.old }
-    ensures { Put (byte ∷ []) line.old line.new at result }
-{
-    line[at] = byte;
-    at + 1
+use std::marker::Model;
+
+// How many bytes are enough for every line: no value of accepted settings has more than four digits, and each of the eight has a space or
+// the line feed behind it.
+pub const ROOM: usize = 40;
+
+// Bytes put so far, at most 40. The crates stand on no library but std, which has no text in fixed memory.
+#[derive(Drop)]
+pub struct Text {
+    bytes: [u8; ROOM],
+    count: usize,
 }
 
-// Bytes one after the other.
-pub fn put_bytes(line: &mut [u8], at: usize, bytes: &[u8]) -> usize
-    requires { at + length bytes.now ≤ length line.old }
-    ensures { Put bytes.now line.old line.new at result }
-{
-    let mut next = at;
-    for byte in bytes {
-        next = put_byte(line, next, *byte);
+impl Model for Text {
+    ghost Value = { List ℕ };
+
+    ghost view = { λ t. take t.count t.bytes };
+
+    ghost invariant = { λ t. t.count ≤ 40 };
+}
+
+impl Text {
+    pub fn new() -> Text
+        ensures { result ≡ [] }
+    {
+        Text {
+            bytes: [0; ROOM],
+            count: 0,
+        }
     }
-    next
-}
 
-// A number in decimal: the digits of a tenth of it, and then the last digit.
-pub fn put_number(line: &mut [u8], at: usize, n: u64) -> usize
-    requires { at + length (decimal n) ≤ length line.old }
-    ensures { Put (decimal n) line.old line.new at result }
-{
-    if n < 10 {
-        return put_byte(line, at, 48 + n as u8);
+    pub fn as_bytes(&self) -> &[u8]
+        ensures { result.now ≡ self.now }
+    {
+        &self.bytes[..self.count]
     }
-    let next = put_number(line, at, n / 10);
-    put_byte(line, next, 48 + (n % 10) as u8)
-}
 
-// A number in decimal, with a space before it.
-pub fn put_spaced(line: &mut [u8], at: usize, n: u64) -> usize
-    requires { at + length (spaced (n ∷ [])) ≤ length line.old }
-    ensures { Put (spaced (n ∷ [])) line.old line.new at result }
-{
-    let next = put_byte(line, at, b' ');
-    put_number(line, next, n)
-}
-
-// Numbers in decimal, each with a space before it.
-fn put_all(line: &mut [u8], at: usize, numbers: &[u64]) -> usize
-    requires { at + length (spaced numbers.now) ≤ length line.old }
-    ensures { Put (spaced numbers.now) line.old line.new at result }
-{
-    let mut next = at;
-    for number in numbers {
-        next = put_spaced(line, next, *number);
+    // One byte.
+    pub fn put_byte(&mut self, byte: u8)
+        requires { length self.old < 40 }
+        ensures { self.new ≡ self.old ++ byte ∷ [] }
+    {
+        self.bytes[self.count] = byte;
+        self.count += 1;
     }
-    next
-}
 
-// Numbers in decimal, with one space between.
-pub fn put_joined(line: &mut [u8], numbers: &[u64]) -> usize
-    requires { (1 ≤ length numbers.now) × (length (joined numbers.now) ≤ length line.old) }
-    ensures { Put (joined numbers.now) line.old line.new 0 result }
-{
-    let next = put_number(line, 0, numbers[0]);
-    put_all(line, next, &numbers[1..])
+    // Bytes one after the other.
+    pub fn put_bytes(&mut self, bytes: &[u8])
+        requires { length self.old + length bytes.now ≤ 40 }
+        ensures { self.new ≡ self.old ++ bytes.now }
+    {
+        let end = self.count + bytes.len();
+        self.bytes[self.count..end].copy_from_slice(bytes);
+        self.count = end;
+    }
+
+    // A number in decimal: the digits of a tenth of it, and then the last digit. std's printing says what is written where the write
+    // succeeds, and not that it does, so that no contract here could rest on it.
+    #[tactic(auto, using(crate::proofs::Decimals::steps))]
+    pub fn put_number(&mut self, n: u64)
+        requires { length self.old + length (decimal n) ≤ 40 }
+        ensures { self.new ≡ self.old ++ decimal n }
+    {
+        if n >= 10 {
+            self.put_number(n / 10);
+        }
+        self.put_byte(b'0' + (n % 10) as u8);
+    }
+
+    // A number in decimal, with a space before it.
+    #[tactic(auto, using(crate::proofs::Joins::pieces))]
+    pub fn put_spaced(&mut self, n: u64)
+        requires { length self.old + length (spaced (n ∷ [])) ≤ 40 }
+        ensures { self.new ≡ self.old ++ spaced (n ∷ []) }
+    {
+        self.put_byte(b' ');
+        self.put_number(n);
+    }
+
+    // Numbers in decimal, with one space between.
+    #[tactic(auto, using(crate::proofs::Joins::pieces))]
+    pub fn put_joined(&mut self, numbers: &[u64])
+        requires { length self.old + length (joined numbers.now) ≤ 40 }
+        ensures { self.new ≡ self.old ++ joined numbers.now }
+    {
+        let Some((first, rest)) = numbers.split_first() else {
+            return;
+        };
+        self.put_number(*first);
+        for number in rest {
+            self.put_spaced(*number);
+        }
+    }
 }

@@ -1,5 +1,5 @@
 -- The measure is the number.
-use Rattle.settings.proofs.text.+put_number.Given as goal
+use Rattle.settings.proofs.text.Text.+put_number.Given as goal
 
 abbrev pub decreases-put_number : goal.decreases-put_number
 decreases-put_number l = l.n
