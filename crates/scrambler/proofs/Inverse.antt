@@ -6,12 +6,7 @@ use Prim.Native.Nat.{ℕ, suc, ◌^◌, ◌≤◌, ◌<◌}
 use native.Mathlib.Omega.{arith}
 use lib.ListN.{length}
 use Rattle.bits.specs.Digits.{Bits}
-use Rattle.scrambler.specs.Scrambler.{place_back, scrambled_bit, push, push_all, scramble, descramble}
-
--- a place of the register is a bit
-place-bit : (register k : ℕ) → place_back register k ≤ 1
-unfolding place_back
-place-bit register k = omega arith
+use Rattle.scrambler.specs.Scrambler.{scrambled_bit, push, push_all, scramble, descramble}
 
 -- a sum modulo 2 is a bit
 pub bit-out : (role register bit : ℕ) → scrambled_bit role register bit ≤ 1
