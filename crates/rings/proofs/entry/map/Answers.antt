@@ -25,7 +25,7 @@ rings_of-requires c =
 
 pub copy_from_slice-requires : goal.copy_from_slice-requires
 copy_from_slice-requires c =
-    (map-accepted _ _ _ _ (sym c.in_ok-map_tested.ensures)).eight ∙ sym (ap length c.rings_of.ensures)
+    let a = map-accepted _ _ _ _ (sym c.in_ok-map_tested.ensures) in omega (arith, a.eight, ap length c.rings_of.ensures)
 
 pub returns : goal.returns
 unfolding map_out mapped_rings
