@@ -8,61 +8,45 @@ ghost use Rattle.counts.specs.Rows.{at, Known};
 use crate::rows::Counts;
 use crate::table::lighter_row;
 
-// How many pairs of rings below M have the sum p: p + 1 up to M − 1, then falling by one to 0 at 2M − 1.
+// How many pairs of rings below M have the sum p, (9-3): M less the distance of p from M − 1, and 0 from 2M − 1 on.
 fn pair_count(m: u64, p: u64) -> u64
-    requires known { Known m }
-    requires p_bound { p < 1000 }
+    requires { Known m }
     ensures { result ≡ g2 m p }
 {
-    if p < m {
-        return p + 1;
-    }
-    if p < 2 * m - 1 {
-        return 2 * m - 1 - p;
-    }
-    0
+    m.saturating_sub(p.abs_diff(m - 1))
 }
 
-// Pairs by the formula: none weighs more than 2(m − 1).
+// Pairs by the formula: none weighs more than 2(m − 1). By `array::from_fn` it is slower.
 fn pair_row(m: u64) -> [u64; 69]
     requires { Known m }
     ensures { at result ≡ g2 m }
 {
-    let end = 2 * m as usize - 1;
     let mut row = [0u64; 69];
-    let mut p = 0;
-    while p < end {
+    for p in 0..2 * m as usize - 1 {
         row[p] = pair_count(m, p as u64);
-        p += 1;
     }
     row
 }
 
 // How many pairs weigh less than n, for n = 0 to 69.
-fn pair_sums(m: u64, pairs: &[u64; 69]) -> [u64; 70]
-    requires known { Known m }
-    requires pairs_value { at pairs.now ≡ g2 m }
-    ensures { (n : ℕ) → n ≤ 69 → at result n ≡ sum (g2 m) n }
+fn pair_sums(pairs: &[u64; 69]) -> [u64; 70]
+    requires { (p : ℕ) → at pairs.now p ≤ 18 }
+    ensures { (n : ℕ) → n ≤ 69 → at result n ≡ sum (at pairs.now) n }
 {
     let mut sums = [0u64; 70];
-    let mut n = 0;
-    while n < 69 {
-        sums[n + 1] = sums[n] + pairs[n];
-        n += 1;
+    for (n, count) in pairs.iter().enumerate() {
+        sums[n + 1] = sums[n] + *count;
     }
     sums
 }
 
-// How many pairs weigh less than n − k; none where k is more than n.
-fn lighter_pairs(m: u64, sums: &[u64; 70], n: usize, k: usize) -> u64
+// How many pairs weigh less than n − k; none where k is more than n. By `saturating_sub`, since the first sum is none, it is slower.
+fn lighter_pairs(sums: &[u64; 70], n: usize, k: usize) -> u64
     requires n_bound { n ≤ 69 }
-    requires by_index { (n : ℕ) → n ≤ 69 → at sums.now n ≡ sum (g2 m) n }
-    ensures { result ≡ sum (g2 m) (n - k) }
+    requires none { at sums.now 0 ≡ 0 }
+    ensures { result ≡ at sums.now (n - k) }
 {
-    if n < k {
-        return 0;
-    }
-    sums[n - k]
+    if n < k { 0 } else { sums[n - k] }
 }
 
 // The count of fours of sum p, out of the one before it: no product, since the counts of pairs rise by one and then fall by one.
@@ -73,9 +57,9 @@ fn next_four(m: u64, sums: &[u64; 70], before: u64, p: usize) -> u64
     ensures { result ≡ g4 m p }
 {
     let k = m as usize;
-    let all = lighter_pairs(m, sums, p + 1, 0);
-    let fallen = lighter_pairs(m, sums, p + 1, k);
-    let gone = lighter_pairs(m, sums, p + 1, 2 * k);
+    let all = sums[p + 1];
+    let fallen = lighter_pairs(sums, p + 1, k);
+    let gone = lighter_pairs(sums, p + 1, 2 * k);
     before + all + gone - 2 * fallen
 }
 
@@ -85,14 +69,11 @@ fn four_row(m: u64, pairs: &[u64; 69]) -> [u64; 137]
     requires pairs_value { at pairs.now ≡ g2 m }
     ensures { at result ≡ g4 m }
 {
-    let end = 4 * m as usize - 3;
-    let sums = pair_sums(m, pairs);
+    let sums = pair_sums(pairs);
     let mut row = [0u64; 137];
     row[0] = 1;
-    let mut p = 1;
-    while p < end {
+    for p in 1..4 * m as usize - 3 {
         row[p] = next_four(m, &sums, row[p - 1], p);
-        p += 1;
     }
     row
 }

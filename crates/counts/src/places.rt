@@ -17,11 +17,9 @@ pub fn lighter_sum(row: &[u64], t: usize, b: usize) -> u64
     requires { Summable row.now t b }
     ensures { result ≡ lighter (at row.now) t b }
 {
-    let mut sum: u64 = 0;
-    let mut p = 0;
-    while p < b {
+    let mut sum = 0;
+    for p in 0..b {
         sum += row[p] * row[t - p];
-        p += 1;
     }
     sum
 }
@@ -32,36 +30,26 @@ pub fn locate(row: &[u64], t: usize, r: u64) -> Located
     requires { Locatable row.now t r }
     ensures { result ≡ located_of (lighter (at row.now) t) r t }
 {
-    let mut b = 0;
     let mut rest = r;
-    while b < t {
+    for b in 0..t {
         let product = row[b] * row[t - b];
         if rest < product {
             return Located { at: b, rest };
         }
         rest -= product;
-        b += 1;
     }
-    Located { at: b, rest }
+    Located { at: t, rest }
 }
 
-// The largest place up to `top` where a row of running sums is at most s, and s less that sum. Candidates are tried from 0 up.
+// The largest place up to `top` where a row of running sums is at most s, and s less that sum. The sums lie in memory and rise, so that
+// halving finds the place; `locate` has no sum before it has added up those below, and goes from 0 up.
 pub fn locate_weight(row: &[u64], top: usize, s: u64) -> Located
     requires { Ascending row.now top s }
     ensures { result ≡ located_of (at row.now) s top }
 {
-    let mut a = 0;
-    while a < top {
-        if s < row[a + 1] {
-            return Located {
-                at: a,
-                rest: s - row[a],
-            };
-        }
-        a += 1;
-    }
+    let at = row[1..top + 1].partition_point(|sum| *sum <= s);
     Located {
-        at: a,
-        rest: s - row[a],
+        at,
+        rest: s - row[at],
     }
 }

@@ -6,17 +6,13 @@ ghost use Rattle.listing.specs.Counts.{z8};
 ghost use Rattle.counts.specs.Rows.{at, Known};
 
 // n numbers of a table from `start` on; what stands beyond is not said. The table is lent: a constant that is indexed is laid out
-// in memory anew each time, so that the loop would write it out in every turn.
+// in memory anew each time.
 fn part_of(table: &[u64; 1242], start: usize, n: usize) -> [u64; 137]
     requires { (start + n ≤ 1242) × (n ≤ 137) }
     ensures { (p : ℕ) → p < n → at result p ≡ at table.now (start + p) }
 {
     let mut row = [0u64; 137];
-    let mut p = 0;
-    while p < n {
-        row[p] = table[start + p];
-        p += 1;
-    }
+    row[..n].copy_from_slice(&table[start..start + n]);
     row
 }
 

@@ -4,14 +4,12 @@ use mathlib.Core.Path.{◌≡◌, ap, ◌∙◌}
 use Prim.Native.Nat.{ℕ, suc, ◌+◌, ◌*◌, ◌-◌, ◌≤◌}
 use native.Mathlib.Nat.{mul-le-mul}
 use native.Mathlib.Omega.{arith}
-use borrow.Author.Rules.{rules}
 use Rattle.laws.proofs.Convolution.{values, times, times_plus, running}
 use Rattle.listing.specs.Counts.{g2, z8}
 use Rattle.listing.proofs.CountLaws.{squared, z8_list}
 use Rattle.counts.specs.Rows.{Known, at}
 use Rattle.counts.proofs.Lighters.{rows, start, length-rows, stands}
-use Rattle.counts.proofs.table.lighter_row.Statement.{statement}
-use Rattle.counts.proofs.table.lighter_row.Tie as tie
+use Rattle.counts.proofs.table.lighter_row.Goals as goal
 
 -- where the row of m stands among the 18, and what it says
 record RowOf (m : ℕ) : Type 0 where
@@ -35,47 +33,7 @@ row_of m known = record {
     next : suc (m - 1) ≡ m
     next = omega arith
 
-overflow_sub-before : tie.Need-overflow_sub-before
-overflow_sub-before c = search rules
-
-overflow_mul-before : tie.Need-overflow_mul-before
-overflow_mul-before c = omega (arith, row_of c.before.args.m c.before.requires)
-
-overflow_mul-before-2 : tie.Need-overflow_mul-before-2
-overflow_mul-before-2 c = omega (arith, row_of c.before.args.m c.before.requires)
-
-overflow_mul-before-3 : tie.Need-overflow_mul-before-3
-overflow_mul-before-3 c = search rules
-
-overflow_sub-before-2 : tie.Need-overflow_sub-before-2
-overflow_sub-before-2 c = (row_of c.before.args.m c.before.requires).low
-
-overflow_mul-before-4 : tie.Need-overflow_mul-before-4
-overflow_mul-before-4 c = search rules
-
-overflow_add-before : tie.Need-overflow_add-before
-overflow_add-before c = search rules
-
-part_of-requires : tie.Need-part_of-requires
-part_of-requires c κs = ((row_of c.before.args.m c.before.requires).inside, omega arith)
-
 -- the table is computed here: what `part_of` ensures speaks of its 1,242 numbers, and what the row says of those of `rows 18`
-returns : tie.Need-returns
+pub returns : goal.returns
 unfolding rows z8_list squared values times times_plus running g2
-returns c =
-    let s = c.before.before in
-    λ p l. c.part_of.ensures p (omega arith) ∙ (row_of s.args.m s.requires).says p l
-
-pub lighter_row_spec : {M : Type 1} → statement M
-lighter_row_spec =
-    tie.close
-    (tie.spec
-    overflow_sub-before
-    overflow_mul-before
-    overflow_mul-before-2
-    overflow_mul-before-3
-    overflow_sub-before-2
-    overflow_mul-before-4
-    overflow_add-before
-    part_of-requires
-    returns)
+returns c = λ p l. c.part_of.ensures p (omega arith) ∙ (row_of c.args.m c.requires).says p l
