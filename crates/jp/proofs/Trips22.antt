@@ -14,10 +14,9 @@ use Rattle.bits.proofs.Digitals.{value-digits}
 use Rattle.sequences.specs.Sequence.{SequenceAnswer}
 use Rattle.sequences.proofs.Named.{printed-back, printed-once}
 use Rattle.sequences.proofs.Trips.{sequence-accepted, sequence-once, answer_same}
-use Rattle.jp.specs.Jp.{jp, sent_numbers, says, answer}
+use Rattle.jp.specs.Jp.{jp, sent_numbers, JpRead, says, answer}
 use Rattle.jp.specs.Table22.{Sayable, Content, Receivable, sent, sequence22, reserved_in}
 use Rattle.jp.specs.declared.sequence.Jp.{Jp}
-use Rattle.jp.specs.declared.sequence.JpRead.{JpRead}
 use Rattle.jp.proofs.Parts.{part-exact}
 use Rattle.jp.proofs.Rows22.{numbers_in22, content_of, printed22, sequence_is_22, sent_exactly, reads_exactly, writes_exactly}
 

@@ -7,13 +7,15 @@
 --
 -- `up_to first width most` is a field of so many bits from the first one on, lowest weight first, that may be 0 to the most. Bit 47 may be
 -- nothing but 1: with 0 the sequence is Jd, which says something else.
-use Rattle.std.specs.Prelude.{List, [], ◌∷◌, ◌++◌, ℕ, get_or, replicate}
+use Rattle.std.specs.Prelude.{List, [], ◌∷◌, ◌++◌, ℕ, get_or, replicate, Float, Result, Ok, Err}
+use Rattle.refusals.specs.Numbers.{number}
+use Rattle.refusals.specs.declared.Refusal.{Refusal}
 use Rattle.sequences.specs.Picture.{fixed, places}
 use Rattle.sequences.specs.Sequence.{Sequence, fields_refusal, fields_read}
 use Rattle.sequences.specs.Table.{up_to}
 use Rattle.jp.specs.Part.{part_of}
 use Rattle.jp.specs.declared.sequence.Jp.{Jp}
-use Rattle.jp.specs.declared.sequence.JpRead.{JpRead}
+use Rattle.jp.specs.declared.sequence.JpRead.{JpRead as Heard}
 
 -- a start bit, and sixteen bits behind it
 unfoldable pub start_and_sixteen : List ℕ
@@ -46,6 +48,12 @@ sent_numbers f = numbers_of f 0 0
 abbrev pub fields_of : List ℕ → Jp
 fields_of numbers = record { fraction = get_or numbers 0 0; training = get_or numbers 3 0; renegotiation = get_or numbers 4 0 }
 
+-- what the reader says: a refusal number, the fields, and the float of their fraction
+pub record JpRead : Type 0 where
+  pub refusal : ℕ
+  pub fields : Jp
+  pub part : Float
+
 -- The reader answers its refusal number, and the fields with the float of their fraction. The numbers of the fields are zeros after a refusal.
 abbrev pub says : ℕ → Jp → JpRead
 says refusal f = record { refusal = refusal; fields = f; part = part_of f.fraction }
@@ -55,3 +63,8 @@ answer_of refusal numbers = says refusal (fields_of numbers)
 
 abbrev pub answer : List ℕ → JpRead
 answer bits = answer_of (fields_refusal jp bits) (fields_read jp bits)
+
+-- what is told of the reader's outcome
+abbrev pub told : Result Heard Refusal → JpRead
+told (Ok heard) = record { refusal = 0; fields = heard.fields; part = heard.part }
+told (Err refusal) = answer_of (number refusal) (replicate 6 0)

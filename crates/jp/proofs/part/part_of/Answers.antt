@@ -1,4 +1,4 @@
--- `jp::part::part_of` meets its contract. Assumes nothing.
+-- `jp::part::part_of` meets its contract.
 use mathlib.Core.Path.{◌≡◌, refl}
 use Prim.Native.Nat.{◌^◌}
 use native.Mathlib.Omega.{arith}
@@ -6,21 +6,17 @@ use lib.Dec.{le→leb}
 use lib.IntN.{pos}
 use lib.Ieee.{binary64, in_float, of_int, of_bits, of_fields, round, size, span, climb, units, odd}
 use Rattle.jp.specs.Part.{part_of}
-use Rattle.jp.proofs.part.part_of.Statement.{statement}
-use Rattle.jp.proofs.part.part_of.Tie as tie
+use Rattle.jp.proofs.part.part_of.Goals as goal
 
 -- 65536.0, as it is written, is the whole number 65,536
 literal : of_bits binary64 4679240012837945344 ≡ of_int binary64 (pos 65536)
 unfolding of_bits of_fields of_int round size span climb units odd
 literal = refl
 
-int_to_float-result : tie.Need-int_to_float-result
+pub int_to_float-result : goal.int_to_float-result
 unfolding in_float
 int_to_float-result c = le→leb c.args.fraction (2 ^ 53) (omega (arith, c.requires))
 
-returns : tie.Need-returns
+pub returns : goal.returns
 unfolding part_of
 returns c = rw literal
-
-pub part_of_spec : {M : Type 1} → statement M
-part_of_spec = tie.close (tie.spec int_to_float-result returns)
