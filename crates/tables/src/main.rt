@@ -10,16 +10,11 @@ use row::show;
 use std::io;
 
 // Every n that some symbol rate takes; `show` passes over what is refused.
-fn rows(rt: &impl Print, s: u64) -> io::Result<()> {
-    for n in 1..15 {
-        show(rt, s, n)?;
-    }
-    Ok(())
-}
-
 fn main(rt: HostRuntime) -> io::Result<()> {
     for s in 0..6 {
-        rows(&rt, s)?;
+        for n in 1..15 {
+            show(&rt, s, n)?;
+        }
     }
     Ok(())
 }
