@@ -1,13 +1,13 @@
 -- When the writer and the reader answer 0: exactly when the settings are accepted, register and Z are fit, the lengths are exact, and the
 -- bytes are bits, or no test refuses the labels. Then N is the number of bits. Assumes nothing.
-use mathlib.Core.Bool.{Bool, true, false, not, cond, ◌||◌}
+use mathlib.Core.Bool.{Bool, true, false, not, cond}
 use mathlib.Core.List.{List}
 use mathlib.Core.Logic.{◌↔◌}
 use mathlib.Core.Path.{◌≡◌, refl, sym, ap, ◌∙◌}
 use Prim.Native.Nat.{ℕ, ◌*◌, ◌^◌, ◌≤◌, ◌<◌}
-use native.Mathlib.Omega.{arith}
 use lib.Dec.{eqb}
 use lib.ListN.{length}
+use Rattle.std.proofs.lemmas.Bool.{or_parts}
 use borrow.Author.Tests.{leb-false, lt-leb, ltb-false, le-ltb, eqb-true, eq-eqb}
 use Rattle.bits.specs.Digits.{Bits}
 use Rattle.laws.proofs.Bools.{and_parts, and_both, not-not}
@@ -25,10 +25,6 @@ use Rattle.coder.specs.Answers.{Answer, exact, write_refusal, read_refusal, refu
 use Rattle.coder.specs.Answers.{written_of, read_of, Sendable, Receivable}
 
 -- The tests, and what they say.
-
-or_parts : (a b : Bool) → (a || b) ≡ false → (a ≡ false) × (b ≡ false)
-or_parts true b e = absurd (let z : ◌≡◌ {A = ℕ} 0 1 = cc in omega arith)
-or_parts false b e = (refl, e)
 
 -- register and Z are fit
 pub fit-passes : (st : State) → st.register < 2 ^ 23 → st.z ≤ 3 → unfit st ≡ false

@@ -12,7 +12,7 @@ use Rattle.laws.specs.Emit.{iter}
 use Rattle.line.specs.declared.settings.Settings.{Settings}
 use Rattle.line.proofs.Soundness.{Sound}
 use Rattle.frame.specs.Reading.{frame_read_turned}
-use Rattle.scrambler.specs.Scrambler.{place_back, scramble}
+use Rattle.scrambler.specs.Scrambler.{place_back}
 use Rattle.scrambler.proofs.Register.{holds_last}
 use Rattle.coder.specs.declared.states.State.{State}
 use Rattle.coder.specs.Receiving.{Receiving, after_bits, receiving_of, data_received, data_bits, data_read_register, data_read_turned}
@@ -30,9 +30,6 @@ bits_enough c sound =
 
 -- Labels that the reader can receive, with settings c.
 module _ (st : State) (c : Settings) (labels bits : List ℕ) (r : Receivable st c labels bits) where
-  pub received_scrambled : scramble c.role st.register (data_bits c st.register st.z labels) ≡ data_received c st.z labels
-  received_scrambled = (decoded st c labels bits r).scrambled
-
   pub register-holds :
       (k : ℕ) → 1 ≤ k → k ≤ 23
       → place_back (read_of st labels (length bits)).state.register k ≡ get_or (data_received c st.z labels) (c.bits - k) 0

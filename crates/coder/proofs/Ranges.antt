@@ -1,8 +1,8 @@
 -- The ranges of a data frame's labels are those of its frames: the labels of 4·P symbols are in their ranges where the sixteen labels of
 -- the first frame and those of the others are, every frame has the q of its settings, and no Z is above 3. Assumes nothing.
-use mathlib.Core.Bool.{Bool, true, false, ◌&&◌}
+use mathlib.Core.Bool.{Bool, true, ◌&&◌, and_assoc}
 use mathlib.Core.List.{List, [], ◌∷◌}
-use mathlib.Core.Path.{◌≡◌, refl, ap, ◌∙◌}
+use mathlib.Core.Path.{◌≡◌, sym, ap, ◌∙◌}
 use Prim.Native.Nat.{ℕ, zero, suc, ◌+◌, ◌*◌, ◌^◌, ◌≤◌, ◌<◌}
 use native.Mathlib.Nat.{zero-add, suc-add}
 use native.Mathlib.Omega.{arith}
@@ -15,10 +15,6 @@ use Rattle.frame.specs.Reading.{in_range, frame_read_turned}
 use Rattle.frame.proofs.Lengths.{next_fits}
 use Rattle.frame.proofs.Sixteen.{four-in_range}
 use Rattle.coder.specs.Sending.{ring_count}
-
-and_assoc : (a b c : Bool) → (a && (b && c)) ≡ ((a && b) && c)
-and_assoc true b c = refl
-and_assoc false b c = refl
 
 -- the labels of k symbols, and those of n more
 range_split :
@@ -34,7 +30,7 @@ range_split M q (suc k) n (a ∷ b ∷ z ∷ one ∷ labels) h =
     let four : 4 * suc k ≡ suc (suc (suc (suc (4 * k)))) = omega arith in
     rw (suc-add k n, four)
     (ap (λ (v : Bool). first && v) (range_split M q k n labels (omega arith))
-    ∙ and_assoc first (in_range M q k (take (4 * k) labels)) (in_range M q n (drop (4 * k) labels)))
+    ∙ sym (and_assoc first (in_range M q k (take (4 * k) labels)) (in_range M q n (drop (4 * k) labels))))
   where
     first : Bool
     first = ltb a (M * 2 ^ q) && (ltb b (M * 2 ^ q) && (leb z 3 && leb one 1))

@@ -8,6 +8,7 @@ use Prim.Native.Nat.{ℕ, zero, suc, ◌+◌, ◌*◌, ◌≤◌}
 use native.Mathlib.Omega.{arith}
 use lib.ListN.{length, take, drop, length-append, length-drop, take-append-drop}
 use lib.Seq.{length-take-le, take_at, drop_at}
+use Rattle.std.proofs.lemmas.List.{nil_from_length}
 use Rattle.bits.specs.Digits.{Bits}
 use Rattle.laws.specs.Emit.{emit, iter}
 use Rattle.laws.proofs.Bools.{and_parts}
@@ -17,7 +18,6 @@ use Rattle.line.specs.Switching.{counter_after, frame_bits, frame_lengths, total
 use Rattle.line.proofs.Soundness.{Sound}
 use Rattle.frame.specs.Reading.{in_range, number_fits, steps_fit, frame_read_turned}
 use Rattle.frame.specs.Writing.{frame_turned}
-use Rattle.frame.proofs.InTurn.{nothing}
 use Rattle.frame.proofs.Lengths.{ShapeFits, next_fits}
 use Rattle.frame.proofs.Accepted.{Accepted, accepted}
 use Rattle.scrambler.specs.Scrambler.{scramble, descramble, push_all}
@@ -138,7 +138,7 @@ module _ (c : Settings) (sound : Sound c) where
 
   frames-read : (k : ℕ) (t : Receiving) → Told c k t → FramesRead c k t (emit (next_bits c) (after_bits c) k t)
   unfolding emit iter frame_lengths total
-  frames-read zero t l = record { binary = tt; size = refl; back = nothing t.labels l.size; turn = refl }
+  frames-read zero t l = record { binary = tt; size = refl; back = sym (nil_from_length t.labels l.size); turn = refl }
   frames-read (suc k) t l = let next = told-next k t l in read_next k t _ next (frames-read k (after_bits c t) next.left)
 
   -- k frames have the bits that the switching says

@@ -8,6 +8,7 @@ use Prim.Native.Nat.{ℕ, zero, suc, ◌+◌, ◌*◌, ◌^◌, ◌≤◌, ◌<�
 use native.Mathlib.Omega.{arith}
 use lib.ListN.{length, take, drop, length-append, length-drop, take-append-drop}
 use lib.Seq.{length-take-le, take_at, drop_at}
+use Rattle.std.proofs.lemmas.List.{nil_from_length}
 use Rattle.bits.specs.Digits.{Bits}
 use Rattle.laws.specs.Emit.{emit, iter}
 use Rattle.bits.proofs.Digitals.{bits-take, bits-drop}
@@ -17,7 +18,6 @@ use Rattle.line.proofs.Soundness.{Sound}
 use Rattle.frame.specs.declared.shape.Shape.{Shape}
 use Rattle.frame.specs.Writing.{labels_written, frame_labels}
 use Rattle.frame.specs.Reading.{in_range, number_fits, steps_fit, frame_read_turned}
-use Rattle.frame.proofs.InTurn.{nothing}
 use Rattle.frame.proofs.WriteLoop.{sixteen-labels}
 use Rattle.frame.proofs.Lengths.{next_fits}
 use Rattle.frame.proofs.Written.{Written, written}
@@ -156,7 +156,7 @@ module _ (c : Settings) (sound : Sound c) where
         ranges = refl;
         numbers = refl;
         steps = refl;
-        back = nothing t.bits l.size;
+        back = sym (nil_from_length t.bits l.size);
         turn = refl;
         most = l.turn;
       }

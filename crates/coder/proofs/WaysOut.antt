@@ -3,16 +3,16 @@
 use mathlib.Core.Bool.{true, false, cond}
 use mathlib.Core.List.{List}
 use mathlib.Core.Path.{◌≡◌, refl, ◌∙◌}
-use Prim.Native.Nat.{ℕ, ◌<◌}
-use native.Mathlib.Omega.{arith}
+use Prim.Native.Nat.{ℕ}
 use lib.Dec.{eqb}
 use lib.ListN.{length}
 use borrow.Author.Tests.{ne_eqb}
 use Rattle.std.specs.Prelude.{Ok, Err}
 use Rattle.laws.specs.Choice.{refusal}
 use Rattle.refusals.specs.declared.Refusal.{Refusal}
-use Rattle.refusals.specs.declared.Refusal.TheVariants.{UnknownRole, UnfitState}
+use Rattle.refusals.specs.declared.Refusal.TheVariants.{UnfitState}
 use Rattle.refusals.specs.Numbers.{number}
+use Rattle.refusals.proofs.Once.{some_number}
 use Rattle.line.specs.declared.settings.Settings.{Settings}
 use Rattle.line.specs.Worked.{Worked, Accepted, Refused}
 use Rattle.coder.specs.declared.states.State.{State}
@@ -22,12 +22,8 @@ use Rattle.coder.specs.Answers.{written_of, labels_after, read_of, bits_after, W
 use Rattle.coder.proofs.Acceptance.{answer_at}
 
 -- no refusal has the number 0
-numbered : (why : Refusal) → 0 < number why
-numbered UnknownRole = omega arith
-numbered _ = omega arith
-
 some : (why : Refusal) → eqb (number why) 0 ≡ false
-some why = ne_eqb (number why) 0 (λ z. omega (arith, numbered why))
+some why = ne_eqb (number why) 0 (some_number why)
 
 -- A start.
 module _ (st : State) where

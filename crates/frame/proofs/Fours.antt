@@ -68,6 +68,15 @@ unfolding fours in_range
 fours-in_range M q zero l = refl
 fours-in_range M q (suc k) l = ap₂ ◌&&◌ (one_four l (M * 2 ^ q)) (fours-in_range M q k (drop 4 l))
 
--- and there are four
+-- four labels one by one
+pub four-listed : (l : List ℕ) → length l ≡ 4 → get_or l 0 0 ∷ get_or l 1 0 ∷ get_or l 2 0 ∷ get_or l 3 0 ∷ [] ≡ l
+four-listed [] e = absurd (omega arith)
+four-listed (a ∷ []) e = absurd (omega arith)
+four-listed (a ∷ b ∷ []) e = absurd (omega arith)
+four-listed (a ∷ b ∷ c ∷ []) e = absurd (omega arith)
+four-listed (a ∷ b ∷ c ∷ d ∷ []) e = refl
+four-listed (a ∷ b ∷ c ∷ d ∷ f ∷ l) e = absurd (omega arith)
+
+-- four out of many
 pub length-four : (labels : List ℕ) (n at : ℕ) → n ≡ 4 → at + 4 ≤ length labels → length (take n (drop at labels)) ≡ 4
 length-four labels n at e room = rw e (length-take-le 4 (drop at labels) (omega (arith, length-drop at labels)))

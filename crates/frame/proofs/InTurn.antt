@@ -2,7 +2,7 @@
 -- give their labels back. By induction over k, for any bits, rings, symbols with I3 and Z. Assumes nothing.
 use mathlib.Core.Bool.{Bool, true, ◌&&◌, ◌||◌}
 use mathlib.Core.List.{List, [], ◌∷◌, ◌++◌}
-use mathlib.Core.Path.{◌≡◌, refl, ap, ap₂, ◌∙◌}
+use mathlib.Core.Path.{◌≡◌, refl, sym, ap, ap₂, ◌∙◌}
 use Prim.Native.Nat.{ℕ, zero, suc, ◌+◌, ◌*◌, ◌-◌, ◌/◌, ◌%◌, ◌^◌, ◌≤◌, ◌<◌}
 use native.Mathlib.Nat.{div-lt_iff_lt-mul}
 use native.Mathlib.Omega.{arith}
@@ -12,6 +12,7 @@ use lib.Pow.{pow_pos}
 use lib.Seq.{drop_at}
 use borrow.Author.Tests.{ltb-true, lt-ltb, leb-true, le-leb}
 use Rattle.bits.specs.Digits.{Bits}
+use Rattle.std.proofs.lemmas.List.{nil_from_length}
 use Rattle.laws.specs.Emit.{emit, iter}
 use Rattle.laws.specs.Lists.{Every}
 use Rattle.laws.proofs.Bools.{and_parts, same_test}
@@ -90,11 +91,6 @@ two_rings : (M : ℕ) (rings : List ℕ) → 2 ≤ length rings → RingsBelow M
 two_rings M [] h b = absurd (omega arith)
 two_rings M (r ∷ []) h b = absurd (omega arith)
 two_rings M (r₁ ∷ r₂ ∷ rings) h b = record { first = b.0; second = b.1.0; others = b.1.1; whole = refl }
-
--- a list of no length
-pub nothing : (l : List ℕ) → length l ≡ 0 → [] ≡ l
-nothing [] e = refl
-nothing (x ∷ l) e = absurd (omega arith)
 
 -- labels as they are read: the first `threes` symbols carry I3, and Z was z
 abbrev pub reading : List ℕ → ℕ → ℕ → Reading
@@ -187,9 +183,9 @@ module _ (M q : ℕ) where
       record {
         size = refl;
         ranges = refl;
-        rings = nothing w.rings l.pairs;
+        rings = sym (nil_from_length w.rings l.pairs);
         steps = refl;
-        back = nothing w.bits l.size;
+        back = sym (nil_from_length w.bits l.size);
         turn = refl;
         most = l.turn;
       }
@@ -293,7 +289,7 @@ module _ (M q : ℕ) where
       → SymbolsRead q k (reading labels threes z) (emit (read_bits q) (after_read q) k (reading labels threes z))
   unfolding emit iter rings_read symbols_length after_read
   symbols_read zero labels threes z t =
-      record { binary = tt; size = refl; back = nothing labels t.size; turn = refl }
+      record { binary = tt; size = refl; back = sym (nil_from_length labels t.size); turn = refl }
   symbols_read (suc k) [] threes z t = absurd (omega (arith, t.size))
   symbols_read (suc k) (a ∷ []) threes z t = absurd (omega (arith, t.size))
   symbols_read (suc k) (a ∷ b ∷ []) threes z t = absurd (omega (arith, t.size))

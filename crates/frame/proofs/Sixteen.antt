@@ -1,13 +1,13 @@
 -- Sixteen labels, symbol by symbol: their ranges, their rings, and their steps of Z. Assumes nothing.
-use mathlib.Core.Bool.{true, false, ◌&&◌, ◌||◌}
+use mathlib.Core.Bool.{true, ◌&&◌, ◌||◌}
 use mathlib.Core.List.{List, [], ◌∷◌}
 use mathlib.Core.Path.{◌≡◌, refl, sym, subst, ◌∙◌}
 use Prim.Native.Nat.{ℕ, zero, suc, ◌+◌, ◌*◌, ◌-◌, ◌/◌, ◌%◌, ◌^◌, ◌≤◌, ◌<◌}
 use native.Mathlib.Nat.{add-zero}
 use native.Mathlib.Numerals.{add-one}
 use native.Mathlib.Omega.{arith}
-use borrow.Author.Tests.{ltb-true, leb-true, lt-ltb, le-ltb, lt-leb, le-leb}
-use lib.Dec.{leb, ltb}
+use borrow.Author.Tests.{ltb-true, leb-true}
+use lib.Dec.{ltb}
 use lib.ListN.{length, get_or, drop}
 use lib.Seq.{get_or-drop, drop-drop}
 use Rattle.laws.proofs.Bools.{and_left, and_right, and_parts}
@@ -45,34 +45,14 @@ four-when top labels at e =
     let r = and_parts _ _ q.1 in
     record { first = ltb-true _ _ p.0; second = ltb-true _ _ q.0; turn = leb-true _ _ r.0; i1 = leb-true _ _ r.1 }
 
--- the first label that is out of its range decides it
-module _ (top : ℕ) (labels : List ℕ) (at : ℕ) where
-  pub first_fails : top ≤ get_or labels at 0 → false ≡ in_range_at top labels at
-  first_fails h = rw (le-ltb (get_or labels at 0) top h)
-
-  pub second-fails : get_or labels at 0 < top → top ≤ get_or labels (at + 1) 0 → false ≡ in_range_at top labels at
-  second-fails f h = rw (lt-ltb (get_or labels at 0) top f, le-ltb (get_or labels (at + 1) 0) top h)
-
-  pub turn-fails : get_or labels at 0 < top → get_or labels (at + 1) 0 < top → 3 < get_or labels (at + 2) 0 → false ≡ in_range_at top labels at
-  turn-fails f s h = rw (lt-ltb (get_or labels at 0) top f, lt-ltb (get_or labels (at + 1) 0) top s, lt-leb (get_or labels (at + 2) 0) 3 h)
-
-  pub i1_decides :
-      get_or labels at 0 < top → get_or labels (at + 1) 0 < top → get_or labels (at + 2) 0 ≤ 3
-      → leb (get_or labels (at + 3) 0) 1 ≡ in_range_at top labels at
-  i1_decides f s h = rw (lt-ltb (get_or labels at 0) top f, lt-ltb (get_or labels (at + 1) 0) top s, le-leb (get_or labels (at + 2) 0) 3 h)
-
 module _ (M q : ℕ) (labels : List ℕ) where
   -- one symbol's labels, and what is left after them
-  pub range-next :
+  range-next :
       (j : ℕ) → j < 4
       → in_range M q (4 - j) (drop (4 * j) labels)
       ≡ (in_range_at (M * 2 ^ q) labels (4 * j) && in_range M q (4 - (j + 1)) (drop (4 * (j + 1)) labels))
   unfolding in_range
   range-next j h = rw (turn-left j h) (simp (get_or-drop, four_on, add-zero))
-
-  pub range_none : (j : ℕ) → 4 ≤ j → in_range M q (4 - j) (drop (4 * j) labels) ≡ true
-  unfolding in_range
-  range_none j h = rw (none_left j h)
 
   ranges-from : in_range M q 4 labels ≡ true → (j : ℕ) → j ≤ 4 → in_range M q (4 - j) (drop (4 * j) labels) ≡ true
   ranges-from e zero h = e

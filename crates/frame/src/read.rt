@@ -25,7 +25,7 @@ fn ring_at(q: usize, labels: &[u16], at: usize) -> u8
     (labels[at] >> q) as u8
 }
 
-// The eight rings of sixteen labels: two for each symbol.
+// The eight rings of sixteen labels: those of the first two of each four.
 pub fn rings_read(q: usize, labels: &[u16]) -> [u8; 8]
     requires { RingsFit q labels.now }
     ensures { result ≡ rings_read q 4 labels.now }
@@ -68,9 +68,10 @@ fn put_third(x: u64, three: bool, bits: &mut [u8], at: usize) -> usize
 {
     if three {
         put_bit(x, bits, at);
-        return at + 1;
+        at + 1
+    } else {
+        at
     }
-    at
 }
 
 // The bits of a symbol, from `at` on. It answers the position after them.

@@ -1,10 +1,12 @@
-// How many bits of a frame go where, and room for them.
-ghost use Rattle.std.specs.Prelude.{false, ◌≡◌, ◌≤◌, length};
+// How many bits of a frame go where.
+ghost use Rattle.std.specs.Prelude.{false, ◌≡◌, ◌≤◌};
 ghost use Rattle.frame.specs.Requires.{Shaped};
 ghost use Rattle.frame.specs.Shape.{length_of, shape_of};
 
 use line::Settings;
 
+// How many bits of S, how many symbols with I3, and q. Its limits stay in the contracts (`Limited`) and are no ghost field, since specs/ makes
+// shapes of any settings (`shape_of`), and the theorems on frames speak of any shape.
 #[derive(Clone, Copy)]
 pub struct Shape {
     pub shell: usize,
@@ -37,13 +39,4 @@ pub fn shape_of(c: Settings, high: bool) -> Shape
         threes: 4,
         uncoded: c.uncoded as usize,
     }
-}
-
-// Room for the bits of any mapping frame: b is at most 79.
-pub const ROOM: [u8; 80] = [0; 80];
-
-pub fn room() -> [u8; 80]
-    ensures { length result ≡ 80 }
-{
-    ROOM
 }
