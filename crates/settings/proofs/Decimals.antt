@@ -9,7 +9,8 @@ use native.Mathlib.Nat.{pow-suc}
 use native.Mathlib.Omega.{arith}
 use lib.ListN.{length, take, get_or, length-append, get_or-append}
 use lib.Seq.{length-take-le, take_all, take-suc}
-use borrow.Author.Tests.{ltb-true, ltb-false, lt-ltb, le-ltb}
+use lib.Dec.{leb}
+use borrow.Author.Tests.{leb-true, leb-false, ltb-true, ltb-false, lt-ltb, le-ltb}
 use Rattle.std.proofs.lemmas.Grind.{common_steps}
 use Rattle.laws.specs.Lists.{Every}
 use Rattle.laws.proofs.Counting.{every_append}
@@ -93,19 +94,26 @@ limit_enough (suc f) (suc g) n h k = go (one_digit n) refl (λ a b. limit_enough
         ap (λ (ds : List ℕ). ds ++ digit (n % 10) ∷ []) (same (omega arith) (omega arith))
 
 -- a number of one digit is that digit
-pub decimal_digit : (n : ℕ) → one_digit n ≡ true → decimal n ≡ digit n ∷ []
+pub decimal_digit : (n : ℕ) → n < 10 → decimal n ≡ digit (n % 10) ∷ []
 unfolding decimal digits
-decimal_digit n e = rw e
+decimal_digit n h = rw (lt-ltb n 10 h) (ap (λ (d : ℕ). digit d ∷ []) (omega arith))
 
 -- and any other is a tenth of it and the last digit
-pub decimal_step : (n : ℕ) → one_digit n ≡ false → decimal n ≡ decimal (n / 10) ++ digit (n % 10) ∷ []
+pub decimal_step : (n : ℕ) → 10 ≤ n → decimal n ≡ decimal (n / 10) ++ digit (n % 10) ∷ []
 unfolding decimal digits
-decimal_step n e =
-    let l = ltb-false n _ e in
-    rw e (ap (λ (ds : List ℕ). ds ++ digit (n % 10) ∷ []) (limit_enough n (suc (n / 10)) (n / 10) (omega arith) (omega arith)))
+decimal_step n h =
+    rw (le-ltb n 10 h)
+    (ap (λ (ds : List ℕ). ds ++ digit (n % 10) ∷ []) (limit_enough n (suc (n / 10)) (n / 10) (omega arith) (omega arith)))
 
-pub one_digit_more : (n : ℕ) → one_digit n ≡ false → length (decimal n) ≡ length (decimal (n / 10)) + 1
-one_digit_more n e = ap length (decimal_step n e) ∙ length-append (decimal (n / 10)) (digit (n % 10) ∷ [])
+-- so many digits they make
+pub digit-length : (n : ℕ) → n < 10 → length (decimal n) ≡ 1
+digit-length n h = ap length (decimal_digit n h)
+
+pub step-length : (n : ℕ) → 10 ≤ n → length (decimal n) ≡ length (decimal (n / 10)) + 1
+step-length n h = ap length (decimal_step n h) ∙ length-append (decimal (n / 10)) (digit (n % 10) ∷ [])
+
+-- by these the code puts a number
+pub ruleset steps = (common_steps, decimal_digit, decimal_step, digit-length, step-length)
 
 -- what is read is not below what was read before
 read-least : (v : ℕ) (ds : List ℕ) → v ≤ read_on v ds
@@ -132,8 +140,8 @@ unfolding read_on
 only_last zero [] d n e s =
     let reads = s.reads in
     let below : n < 10 = omega (arith, s.each.0) in
-    let same : d ≡ digit n = omega (arith, s.each.0) in
-    ap (λ (x : ℕ). x ∷ []) same ∙ sym (decimal_digit n (lt-ltb n 10 below))
+    let same : d ≡ digit (n % 10) = omega (arith, s.each.0) in
+    ap (λ (x : ℕ). x ∷ []) same ∙ sym (decimal_digit n below)
 only_last zero (x ∷ front) d n e s = absurd (omega arith)
 only_last (suc m) front d n e s =
     let nonzero : n ≡ 0 → ⊥ = λ z. omega (arith, s.alone z, length-append front (d ∷ [])) in
@@ -152,7 +160,7 @@ only_last (suc m) front d n e s =
     let last = every-right Digit front (d ∷ []) s.each in
     let over : value front ≡ n / 10 = omega (arith, last.0) in
     let end : d ≡ digit (n % 10) = omega (arith, last.0) in
-    ap₂ (λ (ds : List ℕ) (x : ℕ). ds ++ x ∷ []) (tenth ∙ ap decimal over) end ∙ sym (decimal_step n (le-ltb n 10 (omega arith)))
+    ap₂ (λ (ds : List ℕ) (x : ℕ). ds ++ x ∷ []) (tenth ∙ ap decimal over) end ∙ sym (decimal_step n (omega arith))
 
 -- and no other digits spell the number
 pub only-decimal : (ds : List ℕ) (n : ℕ) → Spells n ds → ds ≡ decimal n
@@ -165,24 +173,9 @@ only-decimal (d ∷ ds) n s =
 
 -- a number below a power of ten has no more digits than the power has zeros
 pub decimal-length : (k n : ℕ) → n < 10 ^ suc k → length (decimal n) ≤ suc k
-decimal-length zero n h = rw (decimal_digit n (lt-ltb n _ h)) (omega arith)
-decimal-length (suc k) n h = go (one_digit n) refl (decimal-length k (n / 10) (omega (arith, pow-suc 10 (suc k))))
+decimal-length zero n h = omega (arith, digit-length n h)
+decimal-length (suc k) n h = go (leb 10 n) refl (decimal-length k (n / 10) (omega (arith, pow-suc 10 (suc k))))
   where
-    go : (v : Bool) → one_digit n ≡ v → length (decimal (n / 10)) ≤ suc k → length (decimal n) ≤ suc (suc k)
-    go true e tenth = rw (decimal_digit n e) (omega arith)
-    go false e tenth = omega (arith, one_digit_more n e)
-
--- the two steps by which the code puts a number, and how long they make it
-pub decimal_lone : (n : ℕ) → n < 10 → decimal n ≡ (48 + n % 10) ∷ []
-decimal_lone n h = decimal_digit n (lt-ltb n 10 h) ∙ ap (λ (d : ℕ). (48 + d) ∷ []) (omega arith)
-
-pub decimal_tenth : (n : ℕ) → 10 ≤ n → decimal n ≡ decimal (n / 10) ++ (48 + n % 10) ∷ []
-decimal_tenth n h = decimal_step n (le-ltb n 10 h)
-
-pub lone-length : (n : ℕ) → n < 10 → length (decimal n) ≡ 1
-lone-length n h = ap length (decimal_lone n h)
-
-pub tenth-length : (n : ℕ) → 10 ≤ n → length (decimal n) ≡ length (decimal (n / 10)) + 1
-tenth-length n h = one_digit_more n (le-ltb n 10 h)
-
-pub ruleset steps = (common_steps, decimal_lone, decimal_tenth, lone-length, tenth-length)
+    go : (v : Bool) → leb 10 n ≡ v → length (decimal (n / 10)) ≤ suc k → length (decimal n) ≤ suc (suc k)
+    go true e tenth = omega (arith, step-length n (leb-true 10 n e))
+    go false e tenth = omega (arith, digit-length n (leb-false 10 n e))

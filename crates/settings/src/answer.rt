@@ -27,7 +27,7 @@ fn worked_of(input: &[u8]) -> Result<Settings, Refusal>
 // The text of an answer: the eight values, or `refused` and the number.
 #[tactic(auto, using(crate::proofs::Fitting::texts), unfolding(crate::specs::Lines::text_of))]
 fn put_text(text: &mut Text, worked: Result<Settings, Refusal>)
-    requires { length text.old + length (text_of (told worked)) ≤ 40 }
+    requires { length text.old + length (text_of (told worked)) ≤ ROOM }
     ensures { text.new ≡ text.old ++ text_of (told worked) }
 {
     match worked {

@@ -1,5 +1,5 @@
 // The text of a line, put together piece by piece in fixed memory.
-ghost use Rattle.std.specs.Prelude.{[], ◌∷◌, ◌++◌, ◌≡◌, ◌+◌, ◌<◌, ◌≤◌, List, ℕ, length, take};
+ghost use Rattle.std.specs.Prelude.{[], ◌∷◌, ◌++◌, ◌≡◌, ◌+◌, ◌<◌, ◌≤◌, length};
 ghost use Rattle.settings.specs.Decimal.{decimal};
 ghost use Rattle.settings.specs.Lines.{spaced, joined};
 
@@ -9,7 +9,7 @@ use std::marker::Model;
 // the line feed behind it.
 pub const ROOM: usize = 40;
 
-// Bytes put so far, at most 40. The crates stand on no library but std, which has no text in fixed memory.
+// The bytes put so far. The crates stand on no library but std, and std has no text in fixed memory.
 #[derive(Drop)]
 pub struct Text {
     bytes: [u8; ROOM],
@@ -17,11 +17,14 @@ pub struct Text {
 }
 
 impl Model for Text {
+    ghost use Rattle.std.specs.Prelude.{◌≤◌, List, ℕ, take};
+    ghost use Rattle.settings.specs.declared.text.TheConstants.{ROOM};
+
     ghost Value = { List ℕ };
 
     ghost view = { λ t. take t.count t.bytes };
 
-    ghost invariant = { λ t. t.count ≤ 40 };
+    ghost invariant = { λ t. t.count ≤ ROOM };
 }
 
 impl Text {
@@ -42,7 +45,7 @@ impl Text {
 
     // One byte.
     pub fn put_byte(&mut self, byte: u8)
-        requires { length self.old < 40 }
+        requires { length self.old < ROOM }
         ensures { self.new ≡ self.old ++ byte ∷ [] }
     {
         self.bytes[self.count] = byte;
@@ -51,7 +54,7 @@ impl Text {
 
     // Bytes one after the other.
     pub fn put_bytes(&mut self, bytes: &[u8])
-        requires { length self.old + length bytes.now ≤ 40 }
+        requires { length self.old + length bytes.now ≤ ROOM }
         ensures { self.new ≡ self.old ++ bytes.now }
     {
         let end = self.count + bytes.len();
@@ -63,7 +66,7 @@ impl Text {
     // succeeds, and not that it does, so that no contract here could rest on it.
     #[tactic(auto, using(crate::proofs::Decimals::steps))]
     pub fn put_number(&mut self, n: u64)
-        requires { length self.old + length (decimal n) ≤ 40 }
+        requires { length self.old + length (decimal n) ≤ ROOM }
         ensures { self.new ≡ self.old ++ decimal n }
     {
         if n >= 10 {
@@ -75,7 +78,7 @@ impl Text {
     // A number in decimal, with a space before it.
     #[tactic(auto, using(crate::proofs::Joins::pieces))]
     pub fn put_spaced(&mut self, n: u64)
-        requires { length self.old + length (spaced (n ∷ [])) ≤ 40 }
+        requires { length self.old + length (spaced (n ∷ [])) ≤ ROOM }
         ensures { self.new ≡ self.old ++ spaced (n ∷ []) }
     {
         self.put_byte(b' ');
@@ -85,7 +88,7 @@ impl Text {
     // Numbers in decimal, with one space between.
     #[tactic(auto, using(crate::proofs::Joins::pieces))]
     pub fn put_joined(&mut self, numbers: &[u64])
-        requires { length self.old + length (joined numbers.now) ≤ 40 }
+        requires { length self.old + length (joined numbers.now) ≤ ROOM }
         ensures { self.new ≡ self.old ++ joined numbers.now }
     {
         let Some((first, rest)) = numbers.split_first() else {
