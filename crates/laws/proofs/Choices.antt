@@ -6,9 +6,7 @@ use mathlib.Core.Path.{◌≡◌, refl, sym, ap, ◌∙◌}
 use Prim.Native.Nat.{ℕ, suc, ◌≤◌}
 use native.Mathlib.Omega.{arith}
 use lib.Dec.{leb}
-use borrow.Author.Tests.{leb-true}
 use Rattle.laws.specs.Choice.{refusal}
-use Rattle.laws.proofs.Bools.{and_parts}
 
 pub no_tests : refusal [] ≡ 0
 unfolding refusal
@@ -35,56 +33,22 @@ none_rest b n rest e = sym (passed_over b (suc n) rest (none_first b n rest e)) 
 pub given-before : (tests more : List (Bool × ℕ)) → (refusal tests ≡ 0 → ⊥) → refusal (tests ++ more) ≡ refusal tests
 unfolding refusal
 given-before [] more h = absurd (h refl)
-given-before (test ∷ tests) more h = go test.0 h (given-before tests more)
-  where
-    go :
-        (v : Bool)
-        → (cond v test.1 (refusal tests) ≡ 0 → ⊥)
-        → ((refusal tests ≡ 0 → ⊥) → refusal (tests ++ more) ≡ refusal tests)
-        → cond v test.1 (refusal (tests ++ more)) ≡ cond v test.1 (refusal tests)
-    go true k later = refl
-    go false k later = later k
+given-before (test ∷ tests) more h = let later = given-before tests more in grind arith
 
 -- Whether each listed number is 1 to m. It is computed from the numbers alone, so that a list may grow and no proof changes.
 abbrev pub within : ℕ → List (Bool × ℕ) → Bool
 within m [] = true
 within m (test ∷ tests) = (leb 1 test.1 && leb test.1 m) && within m tests
 
-record Within (m : ℕ) (test : Bool × ℕ) (tests : List (Bool × ℕ)) : Type 0 where
-  some : 1 ≤ test.1
-  most : test.1 ≤ m
-  others : within m tests ≡ true
-
-within-parts : (m : ℕ) (test : Bool × ℕ) (tests : List (Bool × ℕ)) → within m (test ∷ tests) ≡ true → Within m test tests
-within-parts m test tests e =
-    let both = and_parts (leb 1 test.1 && leb test.1 m) (within m tests) e in
-    let first = and_parts (leb 1 test.1) (leb test.1 m) both.0 in
-    record { some = leb-true 1 test.1 first.0; most = leb-true test.1 m first.1; others = both.1 }
-
 -- and where none is given, those that follow decide; no listed number is 0
 pub none_before :
     (m : ℕ) (tests more : List (Bool × ℕ)) → within m tests ≡ true → refusal tests ≡ 0 → refusal (tests ++ more) ≡ refusal more
 unfolding refusal
 none_before m [] more listed none = refl
-none_before m (t ∷ tests) more listed none = go t.0 none (none_before m tests more parts.others)
-  where
-    parts : Within m t tests
-    parts = within-parts m t tests listed
-
-    go :
-        (v : Bool)
-        → cond v t.1 (refusal tests) ≡ 0
-        → (refusal tests ≡ 0 → refusal (tests ++ more) ≡ refusal more)
-        → cond v t.1 (refusal (tests ++ more)) ≡ refusal more
-    go true e later = absurd (omega (arith, parts.some, e))
-    go false e later = later e
+none_before m (t ∷ tests) more listed none = let later = none_before m tests more in grind arith
 
 -- where no listed number is above m, the one that is given is not
 pub refusal-most : (m : ℕ) (tests : List (Bool × ℕ)) → within m tests ≡ true → refusal tests ≤ m
 unfolding refusal
 refusal-most m [] listed = omega arith
-refusal-most m (t ∷ tests) listed = go t.0 (refusal-most m tests (within-parts m t tests listed).others)
-  where
-    go : (v : Bool) → refusal tests ≤ m → cond v t.1 (refusal tests) ≤ m
-    go true k = (within-parts m t tests listed).most
-    go false k = k
+refusal-most m (t ∷ tests) listed = let later = refusal-most m tests in grind arith

@@ -3,28 +3,20 @@
 -- pairs. No sums of indicators, and no exchange of sums. Assumes nothing.
 use mathlib.Core.Bool.{Bool, true, false, cond, ◌&&◌}
 use mathlib.Core.List.{List, [], ◌∷◌, ◌++◌, map}
-use mathlib.Core.Logic.{⊎_elim}
 use mathlib.Core.Path.{◌≡◌, refl, sym, ap, ap₂, ◌∙◌}
 use Prim.Native.Nat.{ℕ, zero, suc, ◌+◌, ◌*◌, ◌≤◌, ◌<◌}
 use native.Mathlib.Nat.{suc-mul, zero-mul, zero-add}
 use native.Mathlib.Omega.{arith}
 use lib.Dec.{ltb, eqb}
 use lib.ListN.{length, get_or, length-append, length-map}
-use borrow.Author.Tests.{ltb-true, ltb-false, eqb-true, eqb-false, le-ltb, ne_eqb}
+use borrow.Author.Tests.{le-ltb, ne_eqb}
 use Rattle.laws.specs.Lists.{up_to, product, count, Every}
-use Rattle.laws.proofs.Largests.{tri}
 
 module _ {X : Type 0} where
   pub count-append : (test : X → Bool) (xs ys : List X) → count test (xs ++ ys) ≡ count test xs + count test ys
   unfolding count
   count-append test [] ys = sym (zero-add (count test ys))
-  count-append test (x ∷ xs) ys = go (test x) (count-append test xs ys)
-    where
-      go :
-          (v : Bool) → count test (xs ++ ys) ≡ count test xs + count test ys
-          → cond v (suc (count test (xs ++ ys))) (count test (xs ++ ys)) ≡ cond v (suc (count test xs)) (count test xs) + count test ys
-      go true e = omega arith
-      go false e = e
+  count-append test (x ∷ xs) ys = let rest = count-append test xs ys in grind arith
 
   -- tests that agree on every item count the same
   pub count_same :
@@ -79,23 +71,7 @@ module _ {X : Type 0} where
       → count (λ x. ltb (f x) (suc s)) xs ≡ count (λ x. ltb (f x) s) xs + count (λ x. eqb (f x) s) xs
   unfolding count
   count-split f s [] = refl
-  count-split f s (x ∷ xs) =
-      go (ltb (f x) (suc s)) (ltb (f x) s) (eqb (f x) s) refl refl refl (count-split f s xs)
-    where
-      go :
-          (u v w : Bool) → ltb (f x) (suc s) ≡ u → ltb (f x) s ≡ v → eqb (f x) s ≡ w
-          → count (λ x. ltb (f x) (suc s)) xs ≡ count (λ x. ltb (f x) s) xs + count (λ x. eqb (f x) s) xs
-          → cond u (suc (count (λ x. ltb (f x) (suc s)) xs)) (count (λ x. ltb (f x) (suc s)) xs)
-          ≡ cond v (suc (count (λ x. ltb (f x) s) xs)) (count (λ x. ltb (f x) s) xs)
-          + cond w (suc (count (λ x. eqb (f x) s) xs)) (count (λ x. eqb (f x) s) xs)
-      go true true true a b c e = absurd (let l = ltb-true (f x) s b in let q = eqb-true (f x) s c in omega arith)
-      go true true false a b c e = omega arith
-      go true false true a b c e = omega arith
-      go true false false a b c e =
-          absurd (let l = ltb-true (f x) (suc s) a in let m = ltb-false (f x) s b in eqb-false (f x) s c (omega arith))
-      go false true w a b c e = absurd (let l = ltb-false (f x) (suc s) a in let m = ltb-true (f x) s b in omega arith)
-      go false false true a b c e = absurd (let l = ltb-false (f x) (suc s) a in let q = eqb-true (f x) s c in omega arith)
-      go false false false a b c e = omega arith
+  count-split f s (x ∷ xs) = let rest = count-split f s xs in grind arith
 
   pub counted :
       (f : X → ℕ) (xs : List X) (n : ℕ) → ((k : ℕ) → k < n → count (λ x. eqb (f x) k) xs ≡ 1)
@@ -133,14 +109,11 @@ absent-up_to (suc n) k h =
 pub once-up_to : (n k : ℕ) → k < n → count (eqb k) (up_to n) ≡ 1
 unfolding up_to count
 once-up_to zero k h = absurd (omega arith)
-once-up_to (suc n) k h = count-append (eqb k) (up_to n) (n ∷ []) ∙ go (eqb k n) refl (once-up_to n k)
-  where
-    go : (v : Bool) → eqb k n ≡ v → (k < n → count (eqb k) (up_to n) ≡ 1) → count (eqb k) (up_to n) + cond v 1 0 ≡ 1
-    go true e f = let q = eqb-true k n e in let z = absent-up_to n k (omega arith) in omega arith
-    go false e f = let q = eqb-false k n e in let z = f (less q) in omega arith
-      where
-        less : (k ≡ n → ⊥) → k < n
-        less q = ⊎_elim (λ l. l) (λ w. ⊎_elim (λ e. absurd (q e)) (λ l. absurd (omega arith)) w) (tri k n)
+once-up_to (suc n) k h =
+    let before = once-up_to n k in
+    let absent = absent-up_to n k in
+    let parts = count-append (eqb k) (up_to n) (n ∷ []) in
+    grind arith
 
 pub length-up_to : (n : ℕ) → length (up_to n) ≡ n
 unfolding up_to
@@ -172,18 +145,8 @@ module _ {X Y : Type 0} where
       ∙ (ap₂ (λ (a b : ℕ). a + b) (head ys) (count-product p q xs ys) ∙ go (p x))
     where
       head : (ys : List Y) → count (λ (z : X × Y). p z.0 && q z.1) (map (λ y. (x, y)) ys) ≡ cond (p x) (count q ys) 0
-      head [] = both (p x)
-        where
-          both : (v : Bool) → ◌≡◌ {A = ℕ} 0 (cond v 0 0)
-          both true = refl
-          both false = refl
-      head (y ∷ ys) = ap (λ (n : ℕ). cond (p x && q y) (suc n) n) (head ys) ∙ both (p x) (q y)
-        where
-          both :
-              (v w : Bool)
-              → cond (v && w) (suc (cond v (count q ys) 0)) (cond v (count q ys) 0) ≡ cond v (cond w (suc (count q ys)) (count q ys)) 0
-          both true w = refl
-          both false w = refl
+      head [] = grind arith
+      head (y ∷ ys) = let rest = head ys in grind arith
 
       go : (v : Bool) → cond v (count q ys) 0 + count p xs * count q ys ≡ cond v (suc (count p xs)) (count p xs) * count q ys
       go true = omega (arith, suc-mul (count p xs) (count q ys))

@@ -1,10 +1,9 @@
 -- Laws of `largest` over running sums: where the limit's own sum is above r, the largest b whose sum is at most r is the block
 -- that r lies in, and there is only one such block. Assumes nothing.
 use mathlib.Core.Bool.{Bool, true, false, cond}
-use mathlib.Core.Logic.{◌⊎◌, inl, inr, ⊎_elim}
+use mathlib.Core.Logic.{◌⊎◌}
 use mathlib.Core.Path.{◌≡◌, refl}
 use Prim.Native.Nat.{ℕ, zero, suc, ◌+◌, ◌≤◌, ◌<◌}
-use native.Mathlib.Nat.{eq-or-lt_of_le}
 use native.Mathlib.Omega.{arith}
 use borrow.Author.Tests.{leb-true, leb-false}
 use lib.Dec.{leb}
@@ -19,29 +18,18 @@ pub record Within (f : ℕ → ℕ) (r b : ℕ) : Type 0 where
 
 -- three ways for two numbers to lie
 pub tri : (a b : ℕ) → (a < b) ⊎ ((a ≡ b) ⊎ (b < a))
-tri a b = go (leb a b) refl
-  where
-    go : (v : Bool) → leb a b ≡ v → (a < b) ⊎ ((a ≡ b) ⊎ (b < a))
-    go true e = ⊎_elim (λ q. inr (inl q)) (λ l. inl l) (eq-or-lt_of_le (leb-true a b e))
-    go false e = inr (inr (leb-false a b e))
+tri a b = grind arith
 
 pub within-once : (f : ℕ → ℕ) (r a b : ℕ) → Within f r a → Within f r b → a ≡ b
-within-once f r a b p q = ⊎_elim first (λ w. ⊎_elim (λ e. e) last w) (tri a b)
-  where
-    first : a < b → a ≡ b
-    first l = absurd (let z = sum-rises f a b l in let u = p.to in let v = q.from in omega arith)
-
-    last : b < a → a ≡ b
-    last l = absurd (let z = sum-rises f b a l in let u = q.to in let v = p.from in omega arith)
+within-once f r a b p q =
+    let first = sum-rises f a b in
+    let last = sum-rises f b a in
+    grind arith
 
 pub largest-le : (f : ℕ → ℕ) (r n : ℕ) → largest f r n ≤ n
 unfolding largest
 largest-le f r zero = omega arith
-largest-le f r (suc n) = go (leb (f (suc n)) r) (largest-le f r n)
-  where
-    go : (v : Bool) → largest f r n ≤ n → cond v (suc n) (largest f r n) ≤ suc n
-    go true h = omega arith
-    go false h = omega arith
+largest-le f r (suc n) = let before = largest-le f r n in grind arith
 
 pub largest-within : (f : ℕ → ℕ) (r n : ℕ) → r < sum f (suc n) → Within f r (largest (sum f) r n)
 unfolding largest

@@ -1,7 +1,7 @@
 -- Powers as code computes them: by squaring, and 2^k by a shift. Assumes nothing.
 use mathlib.Core.Path.{◌≡◌, sym, ◌∙◌}
-use Prim.Native.Nat.{ℕ, ◌+◌, ◌*◌, ◌%◌, ◌^◌, ◌≤◌, ◌<◌}
-use native.Mathlib.Nat.{pow-zero, pow-suc, one-mul, mod-eq_of_lt, mul-le-mul}
+use Prim.Native.Nat.{ℕ, ◌+◌, ◌*◌, ◌%◌, ◌^◌, ◌<◌}
+use native.Mathlib.Nat.{pow-zero, pow-suc, one-mul, mod-eq_of_lt}
 use lib.Pow.{pow-add, pow-lt}
 
 -- squaring doubles the exponent
@@ -13,10 +13,6 @@ three_squarings n = sym (squared n 4 _ (squared n 2 _ (squared n 1 n first)))
   where
     first : n ^ 1 ≡ n
     first = pow-suc n 0 ∙ rw pow-zero (one-mul n)
-
--- a square of a number up to c
-pub square_bound : (n c : ℕ) → n ≤ c → n * n ≤ c * c
-square_bound n c h = mul-le-mul h h
 
 -- 1 << k of 64 bits
 pub shifted_one : (k : ℕ) → k < 64 → (1 * 2 ^ k) % 2 ^ 64 ≡ 2 ^ k

@@ -1,7 +1,7 @@
 -- Laws of `put` and `Put`: nothing put leaves the buffer; a store, a run of stores and a loan that comes back each put a part; a part put
 -- behind a part is the two put at once; how long the buffer is, and what it starts with. Assumes nothing.
 use mathlib.Core.List.{List, [], ◌∷◌, ◌++◌, append_assoc, append-nil}
-use mathlib.Core.Path.{◌≡◌, refl, sym, ap, ap₂, ◌∙◌}
+use mathlib.Core.Path.{◌≡◌, sym, ap, ap₂, ◌∙◌}
 use Prim.Native.Nat.{ℕ, suc, ◌+◌, ◌-◌, ◌≤◌, ◌<◌}
 use native.Mathlib.Nat.{add-zero, zero-add, add_assoc}
 use native.Mathlib.Numerals.{add-one}
@@ -80,12 +80,9 @@ pub put_first :
     → put (set buffer at x) (at + 1) rest ≡ put buffer at (x ∷ rest)
 put_first buffer at x rest h = rw (put-store buffer at x h) (put-behind buffer at (x ∷ []) (omega arith) rest)
 
--- The same of a part and the place behind it: nothing, a store, and a part behind a part.
+-- The same of a part and the place behind it: nothing, and a part behind a part.
 pub put_none : {b : List ℕ} {at : ℕ} → Put [] b b at at
 put_none {b} {at} = record { buffer = sym (put-nothing b at); place = sym (add-zero at) }
-
-pub put_one : {b : List ℕ} {at x : ℕ} → at < length b → Put (x ∷ []) b (set b at x) at (at + 1)
-put_one {b} {at} {x} h = record { buffer = put-store b at x h; place = refl }
 
 pub put-more :
     {s t a b c : List ℕ} {at k m : ℕ} → at ≤ length a → Put s a b at k → Put t b c k m → Put (s ++ t) a c at m

@@ -1,9 +1,7 @@
 -- `largest` over a function that rises up to the limit: a place where the function is still small enough, and which is the limit
 -- or is followed by one where it is not, is the largest. Assumes nothing.
-use mathlib.Core.Logic.{⊎_elim}
-use mathlib.Core.Path.{◌≡◌, refl, sym, ◌∙◌}
+use mathlib.Core.Path.{◌≡◌, refl}
 use Prim.Native.Nat.{ℕ, zero, suc, ◌≤◌, ◌<◌}
-use native.Mathlib.Nat.{eq-or-lt_of_le}
 use native.Mathlib.Omega.{arith}
 use borrow.Author.Tests.{le-leb, lt-leb}
 use Rattle.laws.specs.Largest.{largest}
@@ -27,11 +25,11 @@ largest-down f r n h = rw (lt-leb (f (suc n)) r h)
 pub largest-below : (f : ℕ → ℕ) (r n b : ℕ) → RisesTo f n → b < n → f b ≤ r → r < f (suc b) → largest f r n ≡ b
 largest-below f r zero b rises l h k = absurd (omega arith)
 largest-below f r (suc n) b rises l h k =
-    largest-down f r n (let z = rises (suc b) (suc n) l (omega arith) in omega arith)
-    ∙ ⊎_elim
-    (λ e. largest-top f r n (rw (← e) h) ∙ sym e)
-    (λ m. largest-below f r n b (λ p q x y. rises p q x (omega arith)) m h k)
-    (eq-or-lt_of_le (omega arith))
+    let large = rises (suc b) (suc n) l in
+    let down = largest-down f r n in
+    let top = largest-top f r n in
+    let below = largest-below f r n b (λ p q x y. rises p q x (omega arith)) in
+    grind arith
 
 -- functions that agree up to the limit have the same largest place
 pub largest_same : (f g : ℕ → ℕ) (r n : ℕ) → ((p : ℕ) → p ≤ n → f p ≡ g p) → largest f r n ≡ largest g r n

@@ -1,8 +1,7 @@
 -- Laws of `sum`: its clauses, that a sum of more numbers is not less, a bound, and equal sums of equal numbers. Assumes nothing.
-use mathlib.Core.Logic.{⊎_elim}
-use mathlib.Core.Path.{◌≡◌, refl, subst, ap₂}
+use mathlib.Core.Path.{◌≡◌, refl, ap₂}
 use Prim.Native.Nat.{ℕ, zero, suc, ◌+◌, ◌*◌, ◌≤◌, ◌<◌}
-use native.Mathlib.Nat.{le_of_suc-le-suc, eq-or-lt_of_le, not-suc-le-zero, suc-mul}
+use native.Mathlib.Nat.{not-suc-le-zero, suc-mul}
 use native.Mathlib.Omega.{arith}
 use Rattle.laws.specs.Sum.{sum}
 
@@ -18,22 +17,14 @@ sum-suc f n = refl
 pub sum-rises : (f : ℕ → ℕ) (a b : ℕ) → a < b → sum f a + f a ≤ sum f b
 unfolding sum
 sum-rises f a zero h = absurd (not-suc-le-zero h)
-sum-rises f a (suc b) h = ⊎_elim same (λ l. less (sum-rises f a b l)) (eq-or-lt_of_le (le_of_suc-le-suc h))
-  where
-    same : a ≡ b → sum f a + f a ≤ sum f b + f b
-    same e = subst (λ (k : ℕ). sum f a + f a ≤ sum f k + f k) e (omega arith)
-
-    less : sum f a + f a ≤ sum f b → sum f a + f a ≤ sum f b + f b
-    less l = omega arith
+sum-rises f a (suc b) h =
+    let before = sum-rises f a b in
+    grind arith
 
 pub sum_mono : (f : ℕ → ℕ) (a b : ℕ) → a ≤ b → sum f a ≤ sum f b
-sum_mono f a b h = ⊎_elim same less (eq-or-lt_of_le h)
-  where
-    same : a ≡ b → sum f a ≤ sum f b
-    same e = subst (λ (k : ℕ). sum f a ≤ sum f k) e (omega arith)
-
-    less : a < b → sum f a ≤ sum f b
-    less l = omega (arith, sum-rises f a b l)
+sum_mono f a b h =
+    let rises = sum-rises f a b in
+    grind arith
 
 -- n numbers of at most c
 pub sum_bound : (f : ℕ → ℕ) (c n : ℕ) → ((p : ℕ) → p < n → f p ≤ c) → sum f n ≤ n * c

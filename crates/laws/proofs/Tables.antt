@@ -1,12 +1,9 @@
 -- A rule at every number below a limit, proved by one test that is computed at all of them, as what every row of a table of ranges
 -- has. Assumes nothing.
 use mathlib.Core.Bool.{Bool, true, ◌&&◌}
-use mathlib.Core.Logic.{⊎_elim}
-use mathlib.Core.Path.{◌≡◌, sym, subst}
+use mathlib.Core.Path.{◌≡◌}
 use Prim.Native.Nat.{ℕ, zero, suc, ◌<◌}
-use native.Mathlib.Nat.{eq-or-lt_of_le, le_of_suc-le-suc}
 use native.Mathlib.Omega.{arith}
-use Rattle.laws.proofs.Bools.{and_left, and_right}
 
 -- the test passes at each number below n
 unfoldable pub passes_below : (ℕ → Bool) → ℕ → Bool
@@ -16,8 +13,4 @@ passes_below test (suc n) = test n && passes_below test n
 pub at_each : (test : ℕ → Bool) (n : ℕ) → passes_below test n ≡ true → (k : ℕ) → k < n → test k ≡ true
 unfolding passes_below
 at_each test zero passes k h = absurd (omega arith)
-at_each test (suc n) passes k h =
-    ⊎_elim
-    (λ same. subst (λ (i : ℕ). test i ≡ true) (sym same) (and_left (test n) (passes_below test n) passes))
-    (λ less. at_each test n (and_right (test n) (passes_below test n) passes) k less)
-    (eq-or-lt_of_le (le_of_suc-le-suc h))
+at_each test (suc n) passes k h = let before = at_each test n in grind arith

@@ -1,13 +1,10 @@
 -- Counting and listing agree (demand 3), for all M at once. Eights are the join of fours, and fours of pairs; document 01's own
 -- definitions are those of the families, so what holds of a graded family holds of them. Assumes nothing.
 use mathlib.Core.Logic.{◌↔◌}
-use mathlib.Core.List.{List}
 use mathlib.Core.Path.{◌≡◌, refl, sym, subst, ap, ap₂, ◌∙◌}
-use Prim.Native.Nat.{ℕ, zero, suc, ◌+◌, ◌*◌, ◌-◌, ◌^◌, ◌≤◌, ◌<◌, compare, Ordering}
+use Prim.Native.Nat.{ℕ, suc, ◌+◌, ◌*◌, ◌-◌, ◌^◌, ◌≤◌, ◌<◌, compare, Ordering}
 use native.Mathlib.Omega.{arith}
 use lib.Dec.{ltb, eqb}
-use lib.ListN.{length}
-use Rattle.laws.specs.Largest.{largest}
 use Rattle.laws.specs.Lists.{count}
 use Rattle.laws.specs.Order.{then_by, is_less, compare_keys}
 use Rattle.laws.specs.Sum.{sum}
@@ -16,8 +13,8 @@ use Rattle.laws.proofs.Counting.{count_same}
 use Rattle.listing.specs.Sets.{Four, Eight, Below8, weight2, weight4, weight8, all_pairs, all_fours, all_eights}
 use Rattle.listing.specs.Sets.{m1, m2, m3, m4, m5, m6, m7, m8}
 use Rattle.listing.specs.Order.{keys, before, standing}
-use Rattle.listing.specs.Counts.{g2, g4, g8, z8, lighter}
-use Rattle.listing.specs.Number.{rings_of, number, pair_at, place_of_pair, place_of_four, four_at}
+use Rattle.listing.specs.Counts.{g2, g4, g8, z8}
+use Rattle.listing.specs.Number.{rings_of, number, place_of_four}
 use Rattle.listing.proofs.Family.{Family, Graded, join, joined}
 use Rattle.listing.proofs.Listing.{number_in, item_of, order_in, number-below, item-number, fine-found, number-item}
 use Rattle.listing.proofs.Listing.{counts-count, sum-counts, all-counted, standing-number}

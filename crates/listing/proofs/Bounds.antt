@@ -1,16 +1,13 @@
 -- What the counts of one half and the sums over two halves can be at most, for every M. Assumes nothing.
-use mathlib.Core.Bool.{Bool, true, false, cond}
 use mathlib.Core.Path.{◌≡◌}
 use Prim.Native.Nat.{ℕ, ◌+◌, ◌*◌, ◌-◌, ◌≤◌, ◌<◌}
 use native.Mathlib.Nat.{mul-le-mul}
 use native.Mathlib.Numerals.{add-one}
 use native.Mathlib.Omega.{arith}
-use Rattle.laws.specs.Sum.{sum}
 use Rattle.laws.proofs.Sums.{sum-zero, sum-suc, sum-rises, sum_bound}
-use lib.Dec.{ltb}
 use Rattle.listing.specs.Counts.{g2, lighter}
 use Rattle.listing.specs.Number.{place_of_pair}
-use Rattle.listing.specs.Sets.{Pair, Below2, weight2}
+use Rattle.listing.specs.Sets.{Pair, Below2}
 
 module _ (g : ℕ → ℕ) (t : ℕ) where
   pub lighter-zero : lighter g t 0 ≡ 0
@@ -40,8 +37,4 @@ g2-bound M p = omega arith
 -- a place is below M, since a sum has at most M pairs
 pub place_of_pair-bound : (M : ℕ) (x : Pair) → Below2 M x → place_of_pair M x < M
 unfolding place_of_pair
-place_of_pair-bound M x h = go (ltb (weight2 x) M)
-  where
-    go : (v : Bool) → cond v x.0 (M - 1 - x.1) < M
-    go true = h.0
-    go false = omega arith
+place_of_pair-bound M x h = grind arith

@@ -2,17 +2,16 @@
 -- are listed. The join of a family with itself lists at weight t, for p = 0 .. t, all (x, y) with x of weight p and y of weight
 -- t − p, the second half counting more than the first. It is a graded family again: said and proved once here, and used for fours
 -- and for eights. Assumes nothing.
-use mathlib.Core.Logic.{⊎_elim}
 use mathlib.Core.Path.{◌≡◌, refl, sym, subst, ap, ap₂, ◌∙◌}
-use Prim.Native.Nat.{ℕ, zero, suc, ◌+◌, ◌*◌, ◌-◌, ◌/◌, ◌%◌, ◌≤◌, ◌<◌, compare, Ordering}
-use native.Mathlib.Nat.{mul_comm, add-sub_cancel_left, div-add-mod', add_right_cancel, add_left_cancel}
+use Prim.Native.Nat.{ℕ, suc, ◌+◌, ◌*◌, ◌-◌, ◌/◌, ◌%◌, ◌<◌, compare, Ordering}
+use native.Mathlib.Nat.{mul_comm, add-sub_cancel_left, div-add-mod'}
 use native.Mathlib.Omega.{arith}
 use lib.Arith.{digits_lt, digits_div, digits_mod}
 use Rattle.laws.specs.Largest.{largest}
 use Rattle.laws.specs.Sum.{sum}
 use Rattle.laws.specs.Order.{then_by}
-use Rattle.laws.proofs.Sums.{sum-rises, sum_mono, sum-suc}
-use Rattle.laws.proofs.Largests.{Within, largest-le, largest-within, largest_is}
+use Rattle.laws.proofs.Sums.{sum-rises}
+use Rattle.laws.proofs.Largests.{Within, largest_is}
 use Rattle.laws.proofs.Orders.{packed, packed-digits, then_by_same}
 use Rattle.listing.specs.Counts.{lighter}
 use Rattle.listing.proofs.Halves.{first_weight, rest_of, Halved, halved}

@@ -2,14 +2,13 @@
 -- whose lighter sets are not too many, and what is left is a number of two digits, the second half's place and the first's.
 -- Assumes nothing.
 use mathlib.Core.Logic.{⊎_elim}
-use mathlib.Core.Path.{◌≡◌, refl, sym, subst, ap, ◌∙◌}
-use Prim.Native.Nat.{ℕ, zero, suc, ◌+◌, ◌*◌, ◌-◌, ◌/◌, ◌%◌, ◌≤◌, ◌<◌}
-use native.Mathlib.Nat.{eq-zero-or-pos, zero-mul, mod-lt, div-lt_iff_lt-mul, div-add-mod', mul_comm}
+use mathlib.Core.Path.{◌≡◌, subst}
+use Prim.Native.Nat.{ℕ, suc, ◌*◌, ◌-◌, ◌/◌, ◌%◌, ◌≤◌, ◌<◌}
+use native.Mathlib.Nat.{eq-zero-or-pos, zero-mul, mod-lt, div-lt_iff_lt-mul, mul_comm}
 use native.Mathlib.Omega.{arith}
 use Rattle.laws.specs.Largest.{largest}
 use Rattle.laws.specs.Sum.{sum}
-use Rattle.laws.proofs.Sums.{sum-rises, sum_mono}
-use Rattle.laws.proofs.Largests.{Within, largest-le, largest-within, largest_is}
+use Rattle.laws.proofs.Largests.{Within, largest-le, largest-within}
 use Rattle.listing.specs.Counts.{lighter}
 
 -- the weight of the first half at place i among the sets of weight t, and what is left

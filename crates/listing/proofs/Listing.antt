@@ -4,21 +4,21 @@
 use mathlib.Core.Bool.{Bool, true, false, cond}
 use mathlib.Core.List.{List}
 use mathlib.Core.Path.{◌≡◌, refl, sym, subst, ap, ap₂, ◌∙◌}
-use Prim.Native.Nat.{ℕ, zero, suc, ◌+◌, ◌*◌, ◌-◌, ◌≤◌, ◌<◌, compare, Ordering}
+use Prim.Native.Nat.{ℕ, zero, suc, ◌+◌, ◌-◌, ◌≤◌, ◌<◌, compare, Ordering}
 use native.Mathlib.Nat.{add-sub_cancel_left}
 use native.Mathlib.Omega.{arith}
 use lib.Dec.{ltb, eqb}
 use lib.ListN.{length}
-use borrow.Author.Tests.{ltb-true, lt-ltb, le-ltb, eqb-true, eqb-false, eq-eqb, ne_eqb}
+use borrow.Author.Tests.{ltb-true, lt-ltb, eqb-true, eqb-false, eq-eqb, ne_eqb}
 use Rattle.laws.specs.Largest.{largest}
 use Rattle.laws.specs.Lists.{count, Every}
 use Rattle.laws.specs.Order.{then_by, is_less}
 use Rattle.laws.specs.Sum.{sum}
 use Rattle.laws.proofs.Bools.{same_test}
 use Rattle.laws.proofs.Counting.{count_same, count-all, counted, counted_by}
-use Rattle.laws.proofs.Largests.{Within, largest-le, largest-within, largest_is}
+use Rattle.laws.proofs.Largests.{Within, largest-within, largest_is}
 use Rattle.laws.proofs.Orders.{packed, then_by_same, is_less-compare}
-use Rattle.laws.proofs.Sums.{sum-rises, sum_mono, sum-zero, sum-suc}
+use Rattle.laws.proofs.Sums.{sum-rises, sum-zero, sum-suc}
 use Rattle.listing.proofs.Family.{Family, Graded}
 
 module _ {X : Type 0} (𝓕 : Family X) where

@@ -1,7 +1,7 @@
 -- Pairs of rings below M are a graded family, by document 01's formulas, listed by their first ring. Assumes nothing.
 use mathlib.Core.Bool.{Bool, true, false, cond}
-use mathlib.Core.Path.{◌≡◌, refl, sym, subst, ap, ap₂, ◌∙◌}
-use Prim.Native.Nat.{ℕ, zero, suc, ◌+◌, ◌*◌, ◌-◌, ◌≤◌, ◌<◌, compare, Ordering}
+use mathlib.Core.Path.{◌≡◌, refl, sym, ap, ap₂, ◌∙◌}
+use Prim.Native.Nat.{ℕ, zero, suc, ◌+◌, ◌*◌, ◌-◌, ◌≤◌, ◌<◌, compare}
 use native.Mathlib.Omega.{arith}
 use lib.Dec.{ltb}
 use borrow.Author.Tests.{ltb-true, ltb-false, lt-ltb, le-ltb}
@@ -32,15 +32,7 @@ unfolding g2
 g2-high zero p h = omega arith
 g2-high (suc M) p h = omega arith
 
--- the rules of a pair on their two sides
-pub pair_at-low : (M t e : ℕ) → t < M → pair_at M t e ≡ (e, t - e)
-unfolding pair_at
-pair_at-low M t e h = ap (λ (b : Bool). cond b (e, t - e) (t - (M - 1 - e), M - 1 - e)) (lt-ltb t M h)
-
-pub pair_at-high : (M t e : ℕ) → M ≤ t → pair_at M t e ≡ (t - (M - 1 - e), M - 1 - e)
-unfolding pair_at
-pair_at-high M t e h = ap (λ (b : Bool). cond b (e, t - e) (t - (M - 1 - e), M - 1 - e)) (le-ltb t M h)
-
+-- the rule of a pair's place on its two sides
 pub place_of_pair-low : (M : ℕ) (x : Pair) → weight2 x < M → place_of_pair M x ≡ x.0
 unfolding place_of_pair
 place_of_pair-low M x h = ap (λ (b : Bool). cond b x.0 (M - 1 - x.1)) (lt-ltb (weight2 x) M h)
@@ -59,27 +51,12 @@ by_side {P} t M low high = go (ltb t M) refl
 
 module _ (M : ℕ) where
   place-below : (x : Pair) → Below2 M x → place_of_pair M x < g2 M (weight2 x)
-  place-below x b = by_side (weight2 x) M low high
-    where
-      low : weight2 x < M → place_of_pair M x < g2 M (weight2 x)
-      low h = let p = place_of_pair-low M x h in let g = g2-low M (weight2 x) h in omega arith
-
-      high : M ≤ weight2 x → place_of_pair M x < g2 M (weight2 x)
-      high h = let p = place_of_pair-high M x h in let g = g2-high M (weight2 x) h in omega arith
+  unfolding place_of_pair g2
+  place-below x b = grind arith
 
   item-place : (x : Pair) → Below2 M x → pair_at M (weight2 x) (place_of_pair M x) ≡ x
-  item-place x b = by_side (weight2 x) M low high
-    where
-      pair : {a c : ℕ} → a ≡ x.0 → c ≡ x.1 → ◌≡◌ {A = Pair} (a, c) x
-      pair p q = ap₂ (λ (a c : ℕ). (a, c)) p q
-
-      low : weight2 x < M → pair_at M (weight2 x) (place_of_pair M x) ≡ x
-      low h = let p = place_of_pair-low M x h in pair_at-low M (weight2 x) (place_of_pair M x) h ∙ pair p (omega arith)
-
-      high : M ≤ weight2 x → pair_at M (weight2 x) (place_of_pair M x) ≡ x
-      high h =
-          let p = place_of_pair-high M x h in
-          pair_at-high M (weight2 x) (place_of_pair M x) h ∙ pair (omega arith) (omega arith)
+  unfolding pair_at place_of_pair
+  item-place x b = grind arith
 
   -- what a pair at a place is, where the place is below the count
   pub record Placed (t e : ℕ) : Type 0 where
@@ -88,29 +65,8 @@ module _ (M : ℕ) where
     pub back : place_of_pair M (pair_at M t e) ≡ e
 
   pub placed : (t e : ℕ) → e < g2 M t → Placed t e
-  placed t e b = by_side t M low high
-    where
-      low : t < M → Placed t e
-      low h =
-          let g = g2-low M t h in
-          let q = pair_at-low M t e h in
-          let weighs : e + (t - e) ≡ t = omega arith in
-          record {
-            fine = subst (Below2 M) (sym q) (omega arith, omega arith);
-            weighs = ap weight2 q ∙ weighs;
-            back = ap (place_of_pair M) q ∙ place_of_pair-low M (e, t - e) (omega arith);
-          }
-
-      high : M ≤ t → Placed t e
-      high h =
-          let g = g2-high M t h in
-          let q = pair_at-high M t e h in
-          let weighs : t - (M - 1 - e) + (M - 1 - e) ≡ t = omega arith in
-          record {
-            fine = subst (Below2 M) (sym q) (omega arith, omega arith);
-            weighs = ap weight2 q ∙ weighs;
-            back = ap (place_of_pair M) q ∙ (place_of_pair-high M (t - (M - 1 - e), M - 1 - e) (omega arith) ∙ omega arith);
-          }
+  unfolding pair_at place_of_pair g2
+  placed t e b = record { fine = grind arith; weighs = grind arith; back = grind arith }
 
   -- of two pairs of one sum the first rings are their places, from the same start on
   by_place :

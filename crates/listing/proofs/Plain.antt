@@ -1,17 +1,17 @@
 -- The plain lists of pairs, fours and eights hold every set of rings below M once, and there are M^8 sets of eight. Assumes nothing.
-use mathlib.Core.Bool.{Bool, true, false, ◌&&◌}
+use mathlib.Core.Bool.{◌&&◌}
 use mathlib.Core.List.{List}
-use mathlib.Core.Path.{◌≡◌, refl, sym, ap, ap₂, ◌∙◌}
+use mathlib.Core.Path.{◌≡◌, refl, ap₂, ◌∙◌}
 use Prim.Native.Nat.{ℕ, ◌*◌, ◌^◌, ◌<◌}
 use native.Mathlib.Omega.{arith}
 use lib.Dec.{eqb}
 use lib.ListN.{length}
 use borrow.Author.Tests.{eqb-true, eq-eqb}
-use Rattle.laws.specs.Lists.{up_to, product, count, Every}
+use Rattle.laws.specs.Lists.{up_to, product}
 use Rattle.laws.proofs.Bools.{and_parts, and_both}
 use Rattle.laws.proofs.Counting.{every-up_to, once-up_to, length-up_to, every-product, count-product, length-product}
 use Rattle.laws.proofs.Powers.{three_squarings}
-use Rattle.listing.specs.Sets.{Pair, Below2, all_pairs, all_fours, all_eights}
+use Rattle.listing.specs.Sets.{all_pairs, all_fours, all_eights}
 use Rattle.listing.proofs.Family.{Family, join}
 use Rattle.listing.proofs.Listing.{Listed}
 use Rattle.listing.proofs.Pairs.{pairs}

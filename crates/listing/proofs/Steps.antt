@@ -11,9 +11,9 @@
 --     g4         1   4   6   4   1
 --
 -- Assumes nothing.
-use mathlib.Core.Path.{◌≡◌, refl, sym, ap, ◌∙◌}
+use mathlib.Core.Path.{◌≡◌, refl, ap, ◌∙◌}
 use Prim.Native.Nat.{ℕ, zero, suc, ◌+◌, ◌*◌, ◌-◌, ◌≤◌, ◌<◌}
-use native.Mathlib.Nat.{zero-mul, suc-mul, mul-one, mul-zero, sub-zero, suc-sub-suc}
+use native.Mathlib.Nat.{zero-mul, suc-mul, mul-one, mul-zero, suc-sub-suc}
 use native.Mathlib.Decide.{dec_le}
 use native.Mathlib.Omega.{arith}
 use Rattle.laws.specs.Sum.{sum}

@@ -1,6 +1,6 @@
 -- Any sequence whose picture and table pass the test: exactly which are accepted, and reading what was written and writing what was read
 -- are the identity. Assumes nothing.
-use mathlib.Core.Bool.{Bool, true, false, not, cond}
+use mathlib.Core.Bool.{Bool, true, false, not}
 use mathlib.Core.List.{List, [], ◌∷◌, ◌++◌}
 use mathlib.Core.Path.{◌≡◌, refl, sym, ap, ap₂, ◌∙◌}
 use Prim.Native.Nat.{ℕ, ◌+◌}
@@ -12,6 +12,7 @@ use lib.Seq.{take_at, drop_at}
 use Rattle.laws.specs.Choice.{refusal}
 use Rattle.laws.proofs.Bools.{and_parts, and_both, not-not}
 use Rattle.laws.proofs.Choices.{no_tests, passed_over, none_first, none_rest}
+use Rattle.std.proofs.lemmas.Bool.{false_from_ne_true}
 use Rattle.bits.specs.Digits.{Bits, all_bits}
 use Rattle.bits.proofs.Digitals.{bits-append, bits-drop}
 use Rattle.bits.proofs.Tested.{all-bits, bits-all}
@@ -32,11 +33,9 @@ use Rattle.sequences.proofs.Tables.{in_row, in_row_field_bits, field_bits_in_row
 same_lists : (xs ys : List ℕ) → is_same xs ys ≡ true → xs ≡ ys
 unfolding is_same
 same_lists [] [] e = refl
-same_lists [] (y ∷ ys) e = absurd (let z : ◌≡◌ {A = ℕ} 0 1 = ap (λ (v : Bool). cond v 1 0) e in omega arith)
-same_lists (x ∷ xs) [] e = absurd (let z : ◌≡◌ {A = ℕ} 0 1 = ap (λ (v : Bool). cond v 1 0) e in omega arith)
-same_lists (x ∷ xs) (y ∷ ys) e =
-    let both = and_parts (eqb x y) (is_same xs ys) e in
-    ap₂ ◌∷◌ (eqb-true x y both.0) (same_lists xs ys both.1)
+same_lists [] (y ∷ ys) e = grind arith
+same_lists (x ∷ xs) [] e = grind arith
+same_lists (x ∷ xs) (y ∷ ys) e = let rest = same_lists xs ys in grind arith
 
 lists_same : (xs : List ℕ) → is_same xs xs ≡ true
 unfolding is_same
@@ -69,11 +68,7 @@ only-sealed-leaves-zero n body h l e =
 
 -- where the test cannot pass it fails
 pub unsealed : (n : ℕ) (body : List ℕ) → (is_sealed n body ≡ true → ⊥) → is_sealed n body ≡ false
-unsealed n body h = go (is_sealed n body) refl
-  where
-    go : (v : Bool) → is_sealed n body ≡ v → v ≡ false
-    go true e = absurd (h e)
-    go false e = refl
+unsealed n body = false_from_ne_true (is_sealed n body)
 
 module _ (s : Sequence) where
   -- what the test of a sequence says
