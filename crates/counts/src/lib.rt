@@ -3,8 +3,8 @@
 // What does it do? `counts_of` says how many pairs and how many fours of rings below M have each sum, and how many sets of eight are
 // lighter than each weight. `locate` and `locate_weight` find where a number lies among running sums, and `lighter_sum` gives such a sum.
 // How does it work? Pairs go by the formula, fours one after the other by sums of pairs, and the lighter eights come from a table of
-// 1,242 numbers, whose one reader is `lighter_row`. It is done once for an M; `rings` then goes by the rows. A place is sought from 0
-// up, and each trial takes one product off.
+// 1,242 numbers, whose one reader is `lighter_row`. It is done once for an M; `rings` then goes by the rows. Among sums of products a
+// place is sought from 0 up, and each trial takes one product off; among the lighter eights by halving.
 #![tactic(auto)]
 
 pub mod counts;

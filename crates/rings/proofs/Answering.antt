@@ -4,7 +4,6 @@ use mathlib.Core.Bool.{Bool, true}
 use mathlib.Core.List.{List, ◌++◌}
 use mathlib.Core.Path.{◌≡◌, sym, ◌∙◌}
 use Prim.Native.Nat.{ℕ, ◌^◌}
-use native.Mathlib.Omega.{arith}
 use lib.Dec.{eqb}
 use lib.ListN.{length}
 use borrow.Author.Tests.{leb-false, eqb-true, ne_eqb}
@@ -12,51 +11,10 @@ use Rattle.laws.specs.Choice.{refusal}
 use Rattle.laws.proofs.Bools.{not-not}
 use Rattle.laws.proofs.Choices.{none_first, none_rest, given-before}
 use Rattle.listing.specs.Sets.{of_list}
-use Rattle.refusals.specs.Numbers.{number}
-use Rattle.refusals.specs.declared.Refusal.{Refusal}
-use Rattle.refusals.specs.declared.Refusal.TheVariants.{
-  UnknownRole,
-  UnknownRate,
-  DataRateOutOfRange,
-  UnknownShaping,
-  UnstatedMark,
-  DeniedDataRate,
-  UnfitState,
-  WrongLength,
-  NotABit,
-  OutOfRange,
-  UnsentRings,
-  UnsentStep,
-  NotPermitted,
-  NumberTooLarge,
-  WrongPicture,
-  WrongCheck,
-  FieldOutOfRange,
-}
 use Rattle.listing.proofs.Agree.{standing-is_number}
 use Rattle.rings.specs.Mapping.{Permitted, all_below}
 use Rattle.rings.specs.Mapping.{Mappable, map_refusal, map_out, Rankable, rank_tests, rank_refusal, ranked_of}
 use Rattle.rings.proofs.Tests.{permitted_is, all-below}
-
--- no refusal has the number 0
-pub some_number : (refusal : Refusal) → number refusal ≡ 0 → ⊥
-some_number UnknownRole e = omega arith
-some_number UnknownRate e = omega arith
-some_number DataRateOutOfRange e = omega arith
-some_number UnknownShaping e = omega arith
-some_number UnstatedMark e = omega arith
-some_number DeniedDataRate e = omega arith
-some_number UnfitState e = omega arith
-some_number WrongLength e = omega arith
-some_number NotABit e = omega arith
-some_number OutOfRange e = omega arith
-some_number UnsentRings e = omega arith
-some_number UnsentStep e = omega arith
-some_number NotPermitted e = omega arith
-some_number NumberTooLarge e = omega arith
-some_number WrongPicture e = omega arith
-some_number WrongCheck e = omega arith
-some_number FieldOutOfRange e = omega arith
 
 module _ (K M : ℕ) where
   -- what it says that the mapper refuses nothing

@@ -15,7 +15,7 @@ use Rattle.laws.proofs.Rising.{largest_same}
 use Rattle.laws.proofs.Sums.{sum-zero, sum-rises, sum_mono}
 use Rattle.listing.specs.Counts.{g4, g8, z8, lighter}
 use Rattle.listing.specs.Number.{rings_of, four_at, place_of_four, number}
-use Rattle.listing.specs.Sets.{Eight, Below8, weight4, weight8, m1, m2, m3, m4, m5, m6, m7, m8}
+use Rattle.listing.specs.Sets.{Eight, Below8, weight4, weight8}
 use Rattle.listing.proofs.Agree.{z8-all, heaviest, number-below-all}
 use Rattle.listing.proofs.CountLaws.{g4-ends}
 use Rattle.listing.proofs.Halves.{Halved, halved}
@@ -168,28 +168,7 @@ module _ (M S : ℕ) (below : S < M ^ 8) where
       let whole : x ≡ record { at = weight; rest = rest } = ap₂ (λ (a r : ℕ). record { at = a; rest = r }) e.0 e.1 in
       rw (found, whole, same) (split8_here known)
 
--- the sums on the way to the two weights, as the code adds them up: none is above the heaviest set's of M = 18
-pub record SmallSums (x : Eight) : Type 0 where
-  pub rings : Below8 137 x
-  pub front2 : m1 x + m2 x < 137
-  pub front3 : m1 x + m2 x + m3 x < 137
-  pub front : m1 x + m2 x + m3 x + m4 x < 137
-  pub back2 : m5 x + m6 x < 137
-  pub back3 : m5 x + m6 x + m7 x < 137
-  pub back : m5 x + m6 x + m7 x + m8 x < 137
-  pub all : m1 x + m2 x + m3 x + m4 x + (m5 x + m6 x + m7 x + m8 x) < 137
-
-small-sums : (x : Eight) → weight8 x ≤ 136 → SmallSums x
-small-sums x h = omega arith
-
--- such a sum, and where it stands in a row of words, fit 64 bits
-pub sum_fits : {n : ℕ} → n < 137 → Fits w64 n
-sum_fits h = omega arith
-
-pub index-fits : {n : ℕ} → n < 137 → Fits w64 (n * 8)
-index-fits h = omega arith
-
--- and so does each part of a number
+-- each part of a number fits 64 bits
 pub parts-fit :
     (lower passed product first : ℕ) → lower + (passed + (product + first)) < 11019960576
     → Fits w64 product
@@ -221,9 +200,6 @@ module _ (M : ℕ) (fourRow lighterRow : List ℕ) (x : Eight) (k : EightRows M 
   -- the weights stay inside the rows, and what is summed is part of the eights of one weight
   pub weights_inside : weight8 x ≤ 136
   weights_inside = let h = heaviest M x below in let m = k.known.high in omega arith
-
-  pub sums-small : SmallSums x
-  sums-small = small-sums x weights_inside
 
   pub summable8 :
       (front back : ℕ) → front ≡ weight4 x.0 → back ≡ weight4 x.1 → length fourRow ≡ 137 → Summable fourRow (front + back) front

@@ -2,8 +2,8 @@
 ghost use Rattle.std.specs.Prelude.{◌≡◌, ◌<◌};
 ghost use Rattle.listing.specs.Counts.{g4};
 ghost use Rattle.listing.specs.Number.{four_at, place_of_four};
-ghost use Rattle.listing.specs.Sets.{Below4, weight2, weight4};
-ghost use Rattle.rings.specs.Parts.{pair_of, four_of};
+ghost use Rattle.listing.specs.Sets.{Below4, weight4};
+ghost use Rattle.rings.specs.Parts.{four_of};
 
 use crate::pair::{PairOfRings, pair_at, place_of_pair};
 use counts::{Counts, lighter_sum, locate};
@@ -12,15 +12,6 @@ use counts::{Counts, lighter_sum, locate};
 pub struct FourRings {
     pub first: PairOfRings,
     pub second: PairOfRings,
-}
-
-impl PairOfRings {
-    // What its rings add up to.
-    pub fn weight(self) -> usize
-        ensures { result ≡ weight2 (pair_of self) }
-    {
-        usize::from(self.first) + usize::from(self.second)
-    }
 }
 
 impl FourRings {

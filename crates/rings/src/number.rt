@@ -40,9 +40,13 @@ pub fn rings_of(counts: &Counts, s: u64) -> [u8; 8]
     requires { s < counts.now.m ^ 8 }
     ensures { result ≡ as_list (rings_of counts.now.m s) }
 {
-    let h = halves_of(counts, s);
-    let front = four_at(counts, h.first_weight, h.first_place);
-    let back = four_at(counts, h.weight - h.first_weight, h.second_place);
+    let halves = halves_of(counts, s);
+    let front = four_at(counts, halves.first_weight, halves.first_place);
+    let back = four_at(
+        counts,
+        halves.weight - halves.first_weight,
+        halves.second_place,
+    );
     [
         front.first.first,
         front.first.second,

@@ -2,7 +2,7 @@
 ghost use Rattle.std.specs.Prelude.{◌≡◌, ◌<◌};
 ghost use Rattle.listing.specs.Counts.{g2};
 ghost use Rattle.listing.specs.Number.{pair_at, place_of_pair};
-ghost use Rattle.listing.specs.Sets.{Below2};
+ghost use Rattle.listing.specs.Sets.{Below2, weight2};
 ghost use Rattle.rings.specs.Parts.{pair_of};
 ghost use Rattle.counts.specs.Rows.{Known};
 
@@ -10,6 +10,15 @@ ghost use Rattle.counts.specs.Rows.{Known};
 pub struct PairOfRings {
     pub first: u8,
     pub second: u8,
+}
+
+impl PairOfRings {
+    // What its rings add up to.
+    pub fn weight(self) -> usize
+        ensures { result ≡ weight2 (pair_of self) }
+    {
+        usize::from(self.first) + usize::from(self.second)
+    }
 }
 
 // The pair of sum t at place e.

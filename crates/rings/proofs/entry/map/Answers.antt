@@ -4,8 +4,9 @@ use mathlib.Core.Path.{sym, ap, ◌∙◌}
 use native.Mathlib.Omega.{arith}
 use lib.ListN.{length}
 use Rattle.std.proofs.lemmas.Result.{err_from_is_err_and}
+use Rattle.refusals.proofs.Once.{some_number}
 use Rattle.rings.specs.Mapping.{map_out, mapped_rings}
-use Rattle.rings.proofs.Answering.{map-accepted, map-left, some_number}
+use Rattle.rings.proofs.Answering.{map-accepted, map-left}
 use Rattle.rings.proofs.entry.map.Goals as goal
 
 pub returns-in_err-map_tested : goal.returns-in_err-map_tested

@@ -11,8 +11,9 @@ use Rattle.laws.specs.Choice.{refusal}
 use Rattle.laws.proofs.Powers.{shifted_one}
 use Rattle.listing.specs.Number.{number}
 use Rattle.listing.specs.Sets.{of_list}
+use Rattle.refusals.proofs.Once.{some_number}
 use Rattle.rings.specs.Mapping.{rank_tests, rank_refusal, ranked_of}
-use Rattle.rings.proofs.Answering.{Tested, first_tests, rank-refused, some_number}
+use Rattle.rings.proofs.Answering.{Tested, first_tests, rank-refused}
 use Rattle.rings.proofs.Tests.{is_permitted, all-below}
 use Rattle.rings.proofs.entry.rank.Goals as goal
 

@@ -12,15 +12,15 @@ known : (m s : ℕ) (below : s < m ^ 8) (h : Halves) → h ≡ halves_of m s →
 known m s below h found = subst (Halfway m s below) (sym found) (halfway m s below)
 
 pub four_at-front-requires : goal.four_at-front-requires
-four_at-front-requires c = (known _ _ c.requires _ c.halves_of-h.ensures).first
+four_at-front-requires c = (known _ _ c.requires _ c.halves_of-halves.ensures).first
 
-pub overflow_sub-h : goal.overflow_sub-h
-overflow_sub-h c = (known _ _ c.requires _ c.halves_of-h.ensures).within
+pub overflow_sub-halves : goal.overflow_sub-halves
+overflow_sub-halves c = (known _ _ c.requires _ c.halves_of-halves.ensures).within
 
 pub four_at-back-requires : goal.four_at-back-requires
-four_at-back-requires c = (known _ _ c.requires _ c.halves_of-h.ensures).second
+four_at-back-requires c = (known _ _ c.requires _ c.halves_of-halves.ensures).second
 
 pub returns : goal.returns
 returns c =
     ap as_list
-    (ap₂ (λ x y. (x, y)) c.four_at-front.ensures c.four_at-back.ensures ∙ sym (known _ _ c.requires _ c.halves_of-h.ensures).whole)
+    (ap₂ (λ x y. (x, y)) c.four_at-front.ensures c.four_at-back.ensures ∙ sym (known _ _ c.requires _ c.halves_of-halves.ensures).whole)
