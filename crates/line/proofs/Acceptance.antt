@@ -1,13 +1,14 @@
 -- Which settings are accepted: exactly those asked for with role and shaping 0 or 1, s at most 5, n in the range of s, and mark 1, or
 -- mark 0 and n at most 12. A mark above 1 is never taken for permission: with all else right the refusal is 5. At most one outcome
 -- fits the contract of the work-out. Assumes nothing.
-use mathlib.Core.Bool.{Bool, true, false, ◌||◌, ◌&&◌}
+use mathlib.Core.Bool.{true, false, ◌||◌, ◌&&◌}
 use mathlib.Core.Logic.{◌⊎◌, inl, inr, ⊎_elim, ◌↔◌}
 use mathlib.Core.Path.{◌≡◌, refl, sym, ap, ◌∙◌}
 use Prim.Native.Nat.{ℕ, zero, suc, ◌≤◌, ◌<◌}
 use native.Mathlib.Omega.{arith}
 use lib.Dec.{leb, ltb, eqb}
-use borrow.Author.Tests.{leb-false, ltb-false, eqb-false, lt-leb, lt-ltb, le-ltb, ne_eqb}
+use Rattle.std.proofs.lemmas.Bool.Decides.{nat_tests}
+use borrow.Author.Tests.{ltb-false, lt-ltb, le-ltb, ne_eqb}
 use Rattle.laws.specs.Choice.{refusal}
 use Rattle.laws.specs.Lists.{count, product, up_to}
 use Rattle.laws.proofs.Choices.{none_first, none_rest, within, refusal-most}
@@ -43,28 +44,19 @@ within-outside : (rate : Option SymbolRate) (n : ℕ) → Within rate n → outs
 within-outside (Some rate) n w = rw (le-ltb _ _ w.0, le-ltb _ _ w.1)
 within-outside None n w = absurd w
 
+in_range : (least most n : ℕ) → (ltb n least || ltb most n) ≡ false → (least ≤ n) × (n ≤ most)
+in_range least most n e = (grind (arith, nat_tests), grind (arith, nat_tests))
+
 outside-within : (rate : Option SymbolRate) (n : ℕ) → outside rate n ≡ false → Within rate n
-outside-within (Some rate) n e = go (ltb n rate.least) refl e
-  where
-    go : (v : Bool) → ltb n rate.least ≡ v → (v || ltb rate.most n) ≡ false → (rate.least ≤ n) × (n ≤ rate.most)
-    go true p q = absurd (let z : ◌≡◌ {A = ℕ} 0 1 = cc in omega arith)
-    go false p q = (ltb-false n rate.least p, ltb-false rate.most n q)
-outside-within None n e = let z : ◌≡◌ {A = ℕ} 0 1 = cc in omega arith
+outside-within (Some rate) n e = in_range rate.least rate.most n e
+outside-within None n e = cc
 
 -- the test of a rate above 28,800 with mark 0
 allowed-passes : (n mark : ℕ) → (n ≤ 12) ⊎ (mark ≡ 1) → (leb 13 n && eqb mark 0) ≡ false
-allowed-passes n mark w = ⊎_elim (λ h. rw (lt-leb 13 n (omega arith))) (λ e. rw (ne_eqb mark 0 (λ z. omega arith)) (last (leb 13 n))) w
-  where
-    last : (v : Bool) → (v && false) ≡ false
-    last true = refl
-    last false = refl
+allowed-passes n mark w = grind (arith, nat_tests)
 
 passes-allowed : (n mark : ℕ) → mark ≤ 1 → (leb 13 n && eqb mark 0) ≡ false → (n ≤ 12) ⊎ (mark ≡ 1)
-passes-allowed n mark h e = go (leb 13 n) refl e
-  where
-    go : (v : Bool) → leb 13 n ≡ v → (v && eqb mark 0) ≡ false → (n ≤ 12) ⊎ (mark ≡ 1)
-    go true p q = inr (let z = eqb-false mark 0 q in omega arith)
-    go false p q = inl (omega (arith, leb-false 13 n p))
+passes-allowed n mark h e = grind (arith, nat_tests)
 
 pub known-accepted :
     (asked : Asked) (rate : SymbolRate) → symbol_rate asked.s ≡ Some rate
@@ -120,7 +112,7 @@ module _ (asked : Asked) where
     where
       go : (k : ℕ) → settings_refusal asked ≡ k → k ≡ 0
       go zero f = refl
-      go (suc k) f = absurd (let r = refused_is k f in let z : ◌≡◌ {A = ℕ} 0 1 = cc in omega arith)
+      go (suc k) f = cc (refused_is k f)
 
   -- accepted exactly when it should be
   pub accepted-when : ((c : Settings) × (worked_of asked ≡ Accepted c)) ↔ Right asked
@@ -139,8 +131,7 @@ module _ (asked : Asked) where
   refused-some number e none =
       let right = unrefused_right (sym number_is ∙ (ap number_of e ∙ none)) in
       let a = (right-accepted right).1 in
-      let z : ◌≡◌ {A = ℕ} 0 1 = cc in
-      omega arith
+      cc
 
   -- and none above the largest number of their refusals
   pub number-most : (m : ℕ) → within m (refusals asked) ≡ true → number_of (worked_of asked) ≤ m

@@ -8,9 +8,8 @@ use Prim.Native.Nat.{ℕ, zero, suc, ◌+◌, ◌*◌, ◌-◌, ◌≤◌, ◌<�
 use native.Mathlib.Nat.{suc-mul, zero-mul, one-mul, add-mul, mul_comm, mul-div_cancel}
 use native.Mathlib.Nat.{suc-add, add-suc, add-zero, zero-add, le_of_suc-le-suc, div-eq_of_lt-le}
 use native.Mathlib.Omega.{arith}
-use lib.Dec.{leb}
+use Rattle.std.proofs.lemmas.Bool.Decides.{nat_tests}
 use lib.ListN.{length, get_or}
-use borrow.Author.Tests.{leb-true, leb-false}
 use Rattle.laws.specs.Sum.{sum}
 use Rattle.laws.specs.Lists.{Every}
 use Rattle.laws.proofs.Sums.{sum-zero, sum-suc}
@@ -23,29 +22,17 @@ high_at P r k = cond (is_high P r (counter_at P r k)) 1 0
 -- one frame: the counter stays below P
 pub counter-stays : (P r c : ℕ) → r ≤ P → c < P → counter_after P r c < P
 unfolding counter_after
-counter-stays P r c fits below = go (leb P (c + r)) refl
-  where
-    go : (v : Bool) → leb P (c + r) ≡ v → cond v (c + r - P) (c + r) < P
-    go true e = omega (arith, leb-true P (c + r) e)
-    go false e = leb-false P (c + r) e
+counter-stays P r c fits below = grind (arith, nat_tests)
 
 module _ (P b r : ℕ) (fits : r ≤ P) where
   -- one frame: what is taken off the counter is P where the frame is high, and the frame then has a bit more
   step-adds : (c : ℕ) → cond (is_high P r c) 1 0 * P + counter_after P r c ≡ c + r
   unfolding counter_after
-  step-adds c = go (leb P (c + r)) refl
-    where
-      go : (v : Bool) → leb P (c + r) ≡ v → cond v 1 0 * P + cond v (c + r - P) (c + r) ≡ c + r
-      go true e = omega (arith, leb-true P (c + r) e)
-      go false e = omega arith
+  step-adds c = grind (arith, nat_tests)
 
   step-bits : (c : ℕ) → 1 ≤ b → frame_bits P b r c ≡ (b - 1) + cond (is_high P r c) 1 0
   unfolding frame_bits
-  step-bits c h = go (leb P (c + r))
-    where
-      go : (v : Bool) → cond v b (b - 1) ≡ (b - 1) + cond v 1 0
-      go true = omega arith
-      go false = omega arith
+  step-bits c h = grind (arith, nat_tests)
 
   -- before every frame the counter is below P
   pub counter-below : 1 ≤ P → (k : ℕ) → counter_at P r k < P

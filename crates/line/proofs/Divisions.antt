@@ -5,7 +5,8 @@ use mathlib.Core.Path.{◌≡◌, refl, sym, ap, ◌∙◌}
 use Prim.Native.Nat.{ℕ, zero, suc, ◌+◌, ◌*◌, ◌-◌, ◌/◌, ◌%◌, ◌≤◌, ◌<◌}
 use native.Mathlib.Nat.{div-eq_of_lt-le, mul-le-mul_left, mul-one, suc-mul, add-mul, one-mul, zero-mul}
 use native.Mathlib.Omega.{arith}
-use lib.Dec.{leb, ltb, eqb}
+use lib.Dec.{leb, ltb}
+use Rattle.std.proofs.lemmas.Bool.Decides.{nat_tests}
 use Rattle.std.specs.Prelude.{min}
 use Rattle.std.proofs.lemmas.Grind.{div_ceil_times}
 use borrow.Author.Tests.{leb-true, leb-false, le-leb, lt-ltb, le-ltb}
@@ -26,11 +27,7 @@ below-high N P b h = leb-false N (b * P) (below-smallest (λ b. leb N (b * P)) N
 
 -- b is at least 1, and one frame fewer does not hold them
 pub high-some : (N P : ℕ) → 1 ≤ N → 1 ≤ P → 1 ≤ high_of N P
-high-some N P h p = go (high_of N P) (high-holds N P p)
-  where
-    go : (b : ℕ) → N ≤ b * P → 1 ≤ b
-    go zero e = absurd (omega (arith, zero-mul P))
-    go (suc b) e = omega arith
+high-some N P h p = grind (arith, high-holds N P p)
 
 pub high-fewer : (N P : ℕ) → 1 ≤ N → 1 ≤ P → (high_of N P - 1) * P < N
 high-fewer N P h p = below-high N P (high_of N P - 1) (omega (arith, high-some N P h p))
@@ -71,36 +68,23 @@ uncoded_is b = go (leb b 12) refl
 
 pub shell_is : (b : ℕ) → shell_of b ≡ b - 12 - 8 * ((b - 36) / 8)
 unfolding shell_of
-shell_is b = go (leb b 12) refl
-  where
-    go : (v : Bool) → leb b 12 ≡ v → cond v 0 (b - 12 - 8 * uncoded_of b) ≡ b - 12 - 8 * ((b - 36) / 8)
-    go true e = omega (arith, leb-true b 12 e)
-    go false e = rw (uncoded_is b)
+shell_is b = grind (arith, nat_tests, uncoded_is b)
 
 pub shell_below : (b : ℕ) → shell_of b < 32
 shell_below b = omega (arith, shell_is b)
 
--- what holds of both values holds of the one that a test picks
-picked : (P : ℕ → Type 0) (v : Bool) {x y : ℕ} → P x → P y → P (cond v x y)
-picked P true p q = p
-picked P false p q = q
-
 -- N of a rate from 1 to 14
 pub bits-least : (J n : ℕ) → 1 ≤ n → 1 ≤ bits_of J n
 unfolding bits_of
-bits-least J n h = picked (λ N. 1 ≤ N) (eqb J 7) (omega arith) (omega arith)
+bits-least J n h = grind (arith, nat_tests)
 
 pub bits_most : (J n : ℕ) → n ≤ 14 → bits_of J n ≤ 1344
 unfolding bits_of
-bits_most J n h = picked (λ N. N ≤ 1344) (eqb J 7) (omega arith) (omega arith)
+bits_most J n h = grind (arith, nat_tests)
 
 -- b of at most 1,344 bits in at least 12 frames, and q
 pub high-most : (N P : ℕ) → N ≤ 1344 → 12 ≤ P → high_of N P ≤ 112
-high-most N P h p = go (leb (high_of N P) 112) refl
-  where
-    go : (v : Bool) → leb (high_of N P) 112 ≡ v → high_of N P ≤ 112
-    go true e = leb-true (high_of N P) 112 e
-    go false e = absurd (omega (arith, below-high N P 112 (leb-false (high_of N P) 112 e)))
+high-most N P h p = grind (arith, below-high N P 112)
 
 pub uncoded-most : (b : ℕ) → b ≤ 112 → uncoded_of b ≤ 9
 uncoded-most b h = omega (arith, uncoded_is b)

@@ -2,8 +2,8 @@
 -- that does; the expanded M is the nearest, or the minimum where that is larger. For both shapings K and M are then permitted:
 -- 2^K is at most M^8, and M is 1 to 18. Assumes nothing.
 use mathlib.Core.Bool.{Bool, true, false, cond}
-use mathlib.Core.Logic.{◌⊎◌, inl, inr, ⊎_elim}
-use mathlib.Core.Path.{◌≡◌, refl}
+use mathlib.Core.Logic.{◌⊎◌}
+use mathlib.Core.Path.{◌≡◌}
 use Prim.Native.Nat.{ℕ, zero, suc, ◌+◌, ◌*◌, ◌-◌, ◌^◌, ◌≤◌, ◌<◌}
 use native.Mathlib.Nat.{pow-le-pow_left, max-eq_left, max-eq_right, le-max_right, max-le, le_trans}
 use native.Mathlib.Omega.{arith}
@@ -11,7 +11,6 @@ use lib.Dec.{leb, ltb, eqb}
 use lib.Pow.{pow_mono, pow_pos}
 use borrow.Author.Tests.{leb-true, leb-false, ltb-true, ltb-false, le-leb, lt-ltb}
 use Rattle.laws.specs.Smallest.{smallest}
-use Rattle.laws.proofs.Largests.{tri}
 use Rattle.laws.proofs.Smallests.{smallest-le, smallest-passes, below-smallest}
 use Rattle.line.proofs.Divisions.{bits-least, bits_most, high-most, uncoded-most, shell_below}
 use Rattle.line.specs.Numbers.{minimum_of, nearest_of, expanded_of}
@@ -73,8 +72,7 @@ apart : (K M m : ℕ) → Nearest K M → Nearest K m → M < m → ⊥
 apart K M m p q l = omega (arith, p.to, q.from, pow-le-pow_left {n = 4 * M + 2} {m = 4 * m - 2} (omega arith) 8)
 
 pub nearest-once : (K M m : ℕ) → Nearest K M → Nearest K m → M ≡ m
-nearest-once K M m p q =
-    ⊎_elim (λ l. absurd (apart K M m p q l)) (λ w. ⊎_elim (λ e. e) (λ l. absurd (apart K m M q p l)) w) (tri M m)
+nearest-once K M m p q = grind (arith, apart K M m p q, apart K m M q p)
 
 pub only-nearest : (K M : ℕ) → K < 32 → Nearest K M → M ≡ nearest_of K
 only-nearest K M h p = nearest-once K M (nearest_of K) p (nearest_is K h)
@@ -90,11 +88,7 @@ unfolding expanded_of
 expanded_is K = record { nearest = max-eq_left; minimum = max-eq_right; least = le-max_right (nearest_of K) (minimum_of K) }
 
 pub expanded_choice : (K : ℕ) → (expanded_of K ≡ nearest_of K) ⊎ (expanded_of K ≡ minimum_of K)
-expanded_choice K = go (leb (minimum_of K) (nearest_of K)) refl
-  where
-    go : (v : Bool) → leb (minimum_of K) (nearest_of K) ≡ v → (expanded_of K ≡ nearest_of K) ⊎ (expanded_of K ≡ minimum_of K)
-    go true e = inl ((expanded_is K).nearest (leb-true (minimum_of K) (nearest_of K) e))
-    go false e = inr ((expanded_is K).minimum (omega (arith, leb-false (minimum_of K) (nearest_of K) e)))
+expanded_choice K = grind (arith, expanded_is K)
 
 expanded_most : (K : ℕ) → expanded_of K ≤ 18
 unfolding expanded_of nearest_of

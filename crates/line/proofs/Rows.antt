@@ -26,13 +26,9 @@ pub unknown-above : (s : ℕ) → 5 < s → symbol_rate s ≡ None
 unfolding symbol_rate
 unknown-above s h = past-rows rates s h
 
--- an unknown rate and a known one are not the same
-unlike : (rate : SymbolRate) → None ≡ Some rate → ⊥
-unlike rate e = let z : ◌≡◌ {A = ℕ} 0 1 = cc in omega arith
-
 known-row : (rows : List SymbolRate) (s : ℕ) (rate : SymbolRate) → row_of rows s ≡ Some rate → s < length rows
 unfolding row_of
-known-row [] s rate e = absurd (unlike rate e)
+known-row [] s rate e = cc
 known-row (row ∷ rows) zero rate e = omega arith
 known-row (row ∷ rows) (suc s) rate e = omega (arith, known-row rows s rate e)
 
@@ -43,7 +39,7 @@ known-below s rate e = known-row rates s rate e
 unknown-row : (rows : List SymbolRate) (s : ℕ) → row_of rows s ≡ None → length rows ≤ s
 unfolding row_of
 unknown-row [] s e = omega arith
-unknown-row (row ∷ rows) zero e = absurd (unlike row (sym e))
+unknown-row (row ∷ rows) zero e = cc
 unknown-row (row ∷ rows) (suc s) e = omega (arith, unknown-row rows s e)
 
 pub above-unknown : (s : ℕ) → symbol_rate s ≡ None → 5 < s

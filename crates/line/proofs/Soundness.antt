@@ -1,11 +1,12 @@
 -- What holds of all accepted settings: what the eight rings, the frames and the labels ask of K, M, q, b, r, P and N. Most of it holds
 -- of any rate in range; what only the table knows is one test each, computed at all 65 pairs of s and n. Assumes nothing.
-use mathlib.Core.Bool.{Bool, true, false, cond, ◌||◌}
+use mathlib.Core.Bool.{Bool, true, ◌||◌}
 use mathlib.Core.Path.{◌≡◌, refl, sym, subst, ◌∙◌}
 use Prim.Native.Nat.{ℕ, zero, suc, ◌+◌, ◌*◌, ◌-◌, ◌^◌, ◌≤◌, ◌<◌}
 use native.Mathlib.Omega.{arith}
 use lib.Dec.{leb}
-use borrow.Author.Tests.{leb-true, leb-false, le-ltb, lt-leb}
+use Rattle.std.proofs.lemmas.Bool.Decides.{nat_tests}
+use borrow.Author.Tests.{leb-true, le-ltb, lt-leb}
 use Rattle.laws.specs.Lists.{Every}
 use Rattle.laws.specs.Smallest.{smallest}
 use Rattle.laws.proofs.Tables.{passes_below, at_each}
@@ -207,13 +208,4 @@ pub frame-between :
     → (8 ≤ frame_bits c.frames c.high c.step (counter_at c.frames c.step k))
     × (frame_bits c.frames c.high c.step (counter_at c.frames c.step k) ≤ c.high)
 unfolding frame_bits
-frame-between c z k = go (leb c.frames (counter_at c.frames c.step k + c.step)) refl
-  where
-    go :
-        (v : Bool) → leb c.frames (counter_at c.frames c.step k + c.step) ≡ v
-        → (8 ≤ cond v c.high (c.high - 1)) × (cond v c.high (c.high - 1) ≤ c.high)
-    go true e = (z.high-least, omega arith)
-    go false e =
-        let l = leb-false c.frames _ e in
-        let m = z.low-least (omega arith) in
-        (omega arith, omega arith)
+frame-between c z k = (grind (arith, nat_tests), grind (arith, nat_tests))
