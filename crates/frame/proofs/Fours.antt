@@ -2,10 +2,13 @@
 use mathlib.Core.Bool.{◌&&◌}
 use mathlib.Core.List.{List, [], ◌∷◌, ◌++◌}
 use mathlib.Core.Path.{◌≡◌, refl, sym, ap, ap₂, ◌∙◌}
-use Prim.Native.Nat.{ℕ, zero, suc, ◌+◌, ◌*◌, ◌^◌, ◌≤◌}
+use Prim.Native.Nat.{ℕ, zero, suc, ◌+◌, ◌*◌, ◌-◌, ◌^◌, ◌≤◌}
 use native.Mathlib.Omega.{arith}
-use lib.ListN.{length, get_or, take, drop, length-append, length-drop}
+use lib.ListN.{length, get_or, set, take, drop, length-append, length-drop}
 use lib.Seq.{get_or-drop, length-take-le, take_at, drop_at}
+use borrow.Rule.Slice.PartMut.{put_mid}
+use Rattle.laws.specs.Put.{put}
+use Rattle.laws.proofs.Puts.{put_loan}
 use Rattle.std.specs.declared.slice.ChunksExact.{ChunksExact}
 use Rattle.std.specs.Slice.Iter.{chunks_exact_rest, chunks_exact_size, chunks_exact_steps}
 use Rattle.std.specs.Iterator.{AlwaysYields}
@@ -68,15 +71,23 @@ unfolding fours in_range
 fours-in_range M q zero l = refl
 fours-in_range M q (suc k) l = ap₂ ◌&&◌ (one_four l (M * 2 ^ q)) (fours-in_range M q k (drop 4 l))
 
--- four labels one by one
-pub four-listed : (l : List ℕ) → length l ≡ 4 → get_or l 0 0 ∷ get_or l 1 0 ∷ get_or l 2 0 ∷ get_or l 3 0 ∷ [] ≡ l
-four-listed [] e = absurd (omega arith)
-four-listed (a ∷ []) e = absurd (omega arith)
-four-listed (a ∷ b ∷ []) e = absurd (omega arith)
-four-listed (a ∷ b ∷ c ∷ []) e = absurd (omega arith)
-four-listed (a ∷ b ∷ c ∷ d ∷ []) e = refl
-four-listed (a ∷ b ∷ c ∷ d ∷ f ∷ l) e = absurd (omega arith)
-
 -- four out of many
 pub length-four : (labels : List ℕ) (n at : ℕ) → n ≡ 4 → at + 4 ≤ length labels → length (take n (drop at labels)) ≡ 4
 length-four labels n at e room = rw e (length-take-le 4 (drop at labels) (omega (arith, length-drop at labels)))
+
+-- a loan of four places that are all stored to puts the four there
+module _ (a b c d : ℕ) where
+  all_stored : (l : List ℕ) → length l ≡ 4 → set (set (set (set l 0 a) 1 b) 2 c) 3 d ≡ a ∷ b ∷ c ∷ d ∷ []
+  all_stored [] e = absurd (omega arith)
+  all_stored (_ ∷ []) e = absurd (omega arith)
+  all_stored (_ ∷ _ ∷ []) e = absurd (omega arith)
+  all_stored (_ ∷ _ ∷ _ ∷ []) e = absurd (omega arith)
+  all_stored (_ ∷ _ ∷ _ ∷ _ ∷ []) e = refl
+  all_stored (_ ∷ _ ∷ _ ∷ _ ∷ _ ∷ l) e = absurd (omega arith)
+
+  pub loan-four :
+      (out : List ℕ) (at end : ℕ) → end ≡ at + 4 → at + 4 ≤ length out
+      → put_mid at (end - at) out (set (set (set (set (take (end - at) (drop at out)) 0 a) 1 b) 2 c) 3 d) ≡ put out at (a ∷ b ∷ c ∷ d ∷ [])
+  loan-four out at end e room =
+      ap (put_mid at (end - at) out) (all_stored _ (length-four out (end - at) at (omega arith) room))
+      ∙ put_loan out at end (a ∷ b ∷ c ∷ d ∷ []) e

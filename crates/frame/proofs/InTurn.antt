@@ -18,10 +18,10 @@ use Rattle.laws.specs.Lists.{Every}
 use Rattle.laws.proofs.Bools.{and_parts, same_test}
 use Rattle.bits.proofs.Digitals.{bits-append, bits-drop}
 use Rattle.frame.specs.declared.symbol.Symbol.{Symbol}
-use Rattle.frame.specs.Shape.{symbol_length}
+use Rattle.frame.specs.Shape.{symbol_length, SymbolFits}
 use Rattle.frame.specs.Writing.{Writing, symbol_of, turned, next_symbol, four_numbers, symbol_labels, after_symbol}
 use Rattle.frame.specs.Reading.{Reading, symbol_read, symbol_bits, read_bits, after_read, rings_read, in_range, steps_fit}
-use Rattle.frame.proofs.Symbols.{SymbolFits, of_fits, bits_of, length-symbol_bits, bits-symbol_bits, of_bits, four_labels, ring_of}
+use Rattle.frame.proofs.Symbols.{of_fits, bits_of, length-symbol_bits, bits-symbol_bits, of_bits, four_labels, ring_of}
 use Rattle.frame.proofs.Symbols.{turned-most, read-labels, label-below, step_fits, read_fits, turned-read, labels-read}
 
 -- the bits of k symbols, of which the first `threes` carry I3

@@ -16,17 +16,9 @@ use Rattle.bits.specs.Digits.{value, digits, Bits}
 use Rattle.bits.proofs.Digitals.{length_digits, bits-digits, bits-append, bits-drop, bits_at}
 use Rattle.bits.proofs.Digitals.{value-take-below, value-digits, digits_value-take}
 use Rattle.frame.specs.declared.symbol.Symbol.{Symbol}
-use Rattle.frame.specs.Shape.{symbol_length}
+use Rattle.frame.specs.Shape.{symbol_length, SymbolFits}
 use Rattle.frame.specs.Writing.{symbol_of, turned}
 use Rattle.frame.specs.Reading.{symbol_read, symbol_bits}
-
--- the parts of a symbol are in their ranges; I3 is 0 where it is not carried
-pub record SymbolFits (q : ℕ) (three : Bool) (s : Symbol) : Type 0 where
-  pub i1 : s.i1 ≤ 1
-  pub i2 : s.i2 ≤ 1
-  pub i3 : s.i3 ≤ cond three 1 0
-  pub first : s.first < 2 ^ q
-  pub second : s.second < 2 ^ q
 
 -- I3 is a bit at any rate
 pub third-bit : {q : ℕ} {three : Bool} {s : Symbol} → SymbolFits q three s → s.i3 ≤ 1
@@ -58,14 +50,6 @@ of_fits q three bits binary =
     third : (v : Bool) → cond v (get_or bits 2 0) 0 ≤ cond v 1 0
     third true = bits_at bits 2 binary
     third false = omega arith
-
--- of the symbol at a place
-pub symbol_fits :
-    (q : ℕ) (three : Bool) (at : ℕ) (bits : List ℕ) (symbol : Symbol)
-    → Bits bits
-    → symbol ≡ symbol_of q three (drop at bits)
-    → SymbolFits q three symbol
-symbol_fits q three at bits symbol binary is-there = rw is-there (of_fits q three (drop at bits) (bits-drop at bits binary))
 
 -- the bits of a symbol, cut where its parts begin
 cut : (n q : ℕ) (bits : List ℕ) → take (n + 2 * q) bits ≡ take n bits ++ (take q (drop n bits) ++ take q (drop q (drop n bits)))

@@ -9,9 +9,10 @@
 --     12   0    0    high    12     0      4
 --     12   0    0    low     11     0      3
 --     8    0    0    high    8      0      0
-use Rattle.std.specs.Prelude.{Bool, cond, ℕ, ◌+◌, ◌*◌, ◌-◌, leb}
+use Rattle.std.specs.Prelude.{Bool, cond, ℕ, ◌+◌, ◌*◌, ◌-◌, ◌^◌, ◌≤◌, ◌<◌, leb}
 use Rattle.line.specs.declared.settings.Settings.{Settings}
 use Rattle.frame.specs.declared.shape.Shape.{Shape}
+use Rattle.frame.specs.declared.symbol.Symbol.{Symbol}
 
 -- the bits of a high or a low frame
 abbrev pub length_of : ℕ → Bool → ℕ
@@ -24,9 +25,18 @@ shape_of c high =
     (record { shell = 0; threes = length_of b high - 8; uncoded = 0 })
     (record { shell = cond high c.shell (c.shell - 1); threes = 4; uncoded = c.uncoded })
 
--- the bits of a 4D symbol, and of a frame
+-- the bits of a 4D symbol
 abbrev pub symbol_length : ℕ → Bool → ℕ
 symbol_length q three = cond three 3 2 + 2 * q
 
+-- the parts of a symbol are in their ranges; I3 is 0 where it is not carried
+pub record SymbolFits (q : ℕ) (three : Bool) (s : Symbol) : Type 0 where
+  pub i1 : s.i1 ≤ 1
+  pub i2 : s.i2 ≤ 1
+  pub i3 : s.i3 ≤ cond three 1 0
+  pub first : s.first < 2 ^ q
+  pub second : s.second < 2 ^ q
+
+-- the bits of a frame
 unfoldable pub frame_length : Shape → ℕ
 frame_length shape = shape.shell + (8 + shape.threes + 8 * shape.uncoded)

@@ -46,6 +46,7 @@ pub fn z_step(z: u64, next: u64) -> u64
 }
 
 // The symbol that four labels say.
+#[tactic(auto, unfolding(crate::specs::Reading::symbol_read))]
 fn symbol_read(q: usize, z: u64, four: &[u16]) -> Symbol
     requires { (length four.now ≡ 4) × (q ≤ 5) × (z ≤ 3) × (get_or four.now 2 0 ≤ 3) }
     ensures { result ≡ symbol_read q z four.now }

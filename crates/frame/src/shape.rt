@@ -23,6 +23,7 @@ fn length_of(b: u64, high: bool) -> u64
 }
 
 // The shape of a high or a low frame of a line.
+#[tactic(auto, unfolding(crate::specs::Shape::shape_of))]
 pub fn shape_of(c: Settings, high: bool) -> Shape
     requires { Shaped c high }
     ensures { result ≡ shape_of c high }

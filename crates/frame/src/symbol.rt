@@ -1,7 +1,7 @@
 // One 4D symbol, out of a frame's bits (clause 9.3), and the differential coder (clause 9.5).
-ghost use Rattle.std.specs.Prelude.{cond, ◌≡◌, ◌+◌, ◌≤◌, length, get_or, drop};
+ghost use Rattle.std.specs.Prelude.{cond, ◌≡◌, ◌+◌, ◌≤◌, length, get_or};
 ghost use Rattle.bits.specs.Digits.{Bits};
-ghost use Rattle.frame.specs.Shape.{symbol_length};
+ghost use Rattle.frame.specs.Shape.{symbol_length, SymbolFits};
 ghost use Rattle.frame.specs.Writing.{symbol_of, turned};
 
 use bits::value_at;
@@ -24,32 +24,35 @@ pub fn lead(three: bool) -> usize
 }
 
 // I3: 0 where the symbol carries none.
-fn third(bits: &[u8], at: usize, three: bool) -> u64
-    requires { at + cond three 3 2 ≤ length bits.now }
-    ensures { result ≡ cond three (get_or (drop at bits.now) 2 0) 0 }
+fn third(bits: &[u8], three: bool) -> u64
+    requires { cond three 3 2 ≤ length bits.now }
+    ensures { result ≡ cond three (get_or bits.now 2 0) 0 }
 {
-    if three { u64::from(bits[at + 2]) } else { 0 }
+    if three { u64::from(bits[2]) } else { 0 }
 }
 
-// The symbol whose bits start at `at`; `three` says whether it carries I3.
-pub fn symbol_at(bits: &[u8], at: usize, q: usize, three: bool) -> Symbol
-    requires { (at + symbol_length q three ≤ length bits.now) × (q ≤ 5) × Bits bits.now }
-    ensures { result ≡ symbol_of q three (drop at bits.now) }
+// The symbol out of the bits at the head of those that are lent; `three` says whether it carries I3.
+pub fn symbol_at(bits: &[u8], q: usize, three: bool) -> Symbol
+    requires { (symbol_length q three ≤ length bits.now) × (q ≤ 5) × Bits bits.now }
+    ensures value { result ≡ symbol_of q three bits.now }
+    ensures fits { SymbolFits q three result }
 {
-    let q_at = at + lead(three);
+    let lead = lead(three);
     Symbol {
-        i1: u64::from(bits[at]),
-        i2: u64::from(bits[at + 1]),
-        i3: third(bits, at, three),
-        first: value_at(bits, q_at, q),
-        second: value_at(bits, q_at + q, q),
+        i1: u64::from(bits[0]),
+        i2: u64::from(bits[1]),
+        i3: third(bits, three),
+        first: value_at(bits, lead, q),
+        second: value_at(bits, lead + q, q),
     }
 }
 
 // Z after a symbol.
+#[tactic(auto, unfolding(crate::specs::Writing::turned))]
 pub fn turn(z: u64, symbol: Symbol) -> u64
     requires { (z ≤ 3) × (symbol.i2 ≤ 1) × (symbol.i3 ≤ 1) }
-    ensures { result ≡ turned z symbol }
+    ensures value { result ≡ turned z symbol }
+    ensures most { result ≤ 3 }
 {
     (z + symbol.i2 + 2 * symbol.i3) % 4
 }

@@ -1,6 +1,5 @@
 // Writing one mapping frame.
 ghost use Rattle.std.specs.Prelude.{◌≡◌, ◌+◌, ◌*◌, ◌^◌, ◌≤◌, ◌<◌, length};
-ghost use Rattle.laws.specs.Put.{put};
 ghost use Rattle.frame.specs.Requires.{Writable};
 ghost use Rattle.frame.specs.Writing.{labels_written, turn_written};
 
@@ -15,17 +14,6 @@ fn label(q: usize, ring: u8, low: u64) -> u16
     ((u64::from(ring) << q) + low) as u16
 }
 
-// Four labels, from `at` on. By four stores: `copy_from_slice` of the array was slower where frames are short.
-fn put_four(out: &mut [u16], at: usize, four: [u16; 4])
-    requires { at + 4 ≤ length out.old }
-    ensures { out.new ≡ put out.old at four }
-{
-    out[at] = four[0];
-    out[at + 1] = four[1];
-    out[at + 2] = four[2];
-    out[at + 3] = four[3];
-}
-
 // The sixteen labels of a frame with these eight rings, into the part of the output that is lent. It answers Z after the frame.
 pub fn write_frame(shape: Shape, ring: &[u8; 8], z: u64, bits: &[u8], out: &mut [u16]) -> u64
     requires { Writable shape ring.now z bits.now out.old }
@@ -37,11 +25,15 @@ pub fn write_frame(shape: Shape, ring: &[u8; 8], z: u64, bits: &[u8], out: &mut 
     let mut turned = z;
     for j in 0..4 {
         let three = j < shape.threes;
-        let symbol = symbol_at(bits, at, q, three);
+        let symbol = symbol_at(&bits[at..], q, three);
         turned = turn(turned, symbol);
         let first = label(q, ring[2 * j], symbol.first);
         let second = label(q, ring[2 * j + 1], symbol.second);
-        put_four(out, 4 * j, [first, second, turned as u16, symbol.i1 as u16]);
+        let four = &mut out[4 * j..4 * j + 4];
+        four[0] = first;
+        four[1] = second;
+        four[2] = turned as u16;
+        four[3] = symbol.i1 as u16;
         at += lead(three) + 2 * q;
     }
     turned

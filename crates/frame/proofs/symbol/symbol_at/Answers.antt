@@ -1,10 +1,16 @@
--- `symbol::symbol_at` meets its contract: what is read at `at` and beyond is what stands at the head of the bits from there.
-use native.Mathlib.Nat.{add-zero}
-use lib.Seq.{get_or-drop, drop-drop}
+-- `symbol::symbol_at` meets its contract.
+use lib.Seq.{drop-drop}
 use Rattle.frame.specs.Writing.{symbol_of}
+use Rattle.frame.proofs.Symbols.{of_fits}
 use Rattle.frame.proofs.symbol.symbol_at.Goals as goal
 
-pub returns : goal.returns
+pub returns-clause-value : goal.returns-clause-value
 unfolding symbol_of
-returns c =
-    simp (c.from.ensures, c.from-2.ensures, c.third.ensures, c.value_at.ensures, c.value_at-2.ensures, c.lead.ensures, drop-drop, get_or-drop, add-zero)
+returns-clause-value c =
+    simp (c.from.ensures, c.from-2.ensures, c.third.ensures, c.value_at.ensures, c.value_at-2.ensures, c.lead-lead.ensures, drop-drop)
+
+pub returns-clause-fits : goal.returns-clause-fits
+unfolding symbol_of
+returns-clause-fits c =
+    rw (c.from.ensures, c.from-2.ensures, c.third.ensures, c.value_at.ensures, c.value_at-2.ensures, c.lead-lead.ensures, ← drop-drop)
+    (of_fits c.args.q c.args.three c.args.bits.now c.requires.2)
