@@ -10,7 +10,7 @@ use Rattle.laws.specs.Lists.{Every}
 use Rattle.line.specs.declared.settings.Settings.{Settings}
 use Rattle.line.specs.Worked.{Accepted}
 use Rattle.coder.specs.declared.states.State.{State}
-use Rattle.coder.specs.declared.states.Coded.{Coded}
+use Rattle.coder.specs.Answers.{Answer}
 use Rattle.coder.specs.Answers.{bits_of, written_of, labels_after, read_of, bits_after, Receivable}
 use Rattle.coder.proofs.Acceptance.{read_receivable, settings-sound}
 use Rattle.coder.proofs.Back.{ReadBack, WrittenBack, reading-back, writing-back, decoded, receives_bits}
@@ -39,7 +39,7 @@ reads_back st bits lent answer labels after call buffer room size words-room r b
       back = read-bits st labels buffer room r back again read zero ∙ (ap (λ (l : List ℕ). bits_after st l buffer) is_given ∙ b.bits_back);
       same =
           read_answer st labels buffer room r back again read zero
-          ∙ (ap (λ (x : Coded). words (coded_numbers x)) (ap (λ (l : List ℕ). read_of st l (length buffer)) is_given ∙ b.answer)
+          ∙ (ap (λ (x : Answer). words (coded_numbers x)) (ap (λ (l : List ℕ). read_of st l (length buffer)) is_given ∙ b.answer)
           ∙ sym (written-answer st bits lent answer 0 labels after call refl));
     }
   where
@@ -59,7 +59,7 @@ reads_back st bits lent answer labels after call buffer room size words-room r b
     found : (c : Settings) × Receivable st c sent buffer
     found =
         read_receivable st sent buffer
-        (ap (λ (x : Coded). x.refusal) b.answer ∙ written-zero st bits lent answer 0 labels after call refl)
+        (ap (λ (x : Answer). x.refusal) b.answer ∙ written-zero st bits lent answer 0 labels after call refl)
 
     long : length labels ≡ 2 * length sent
     long = ap length (written-labels st bits lent answer 0 labels after call refl) ∙ length-bytes sent
@@ -101,7 +101,7 @@ writes-back st labels lent answer bits after bytes call buffer room size words-r
           ∙ bytes_back (length taken) labels long bytes);
       same =
           written-answer st bits buffer room r back again write zero
-          ∙ (ap (λ (x : Coded). words (coded_numbers x)) (ap (λ (l : List ℕ). written_of st l (length space)) is_bits ∙ b.answer)
+          ∙ (ap (λ (x : Answer). words (coded_numbers x)) (ap (λ (l : List ℕ). written_of st l (length space)) is_bits ∙ b.answer)
           ∙ sym (read_answer st labels lent answer 0 bits after call refl));
     }
   where

@@ -8,7 +8,7 @@ use lib.ListN.{length, take, replicate, length-replicate}
 use Rattle.laws.specs.Lists.{Every}
 use Rattle.line.specs.declared.settings.Settings.{Settings}
 use Rattle.coder.specs.declared.states.State.{State}
-use Rattle.coder.specs.declared.states.Coded.{Coded}
+use Rattle.coder.specs.Answers.{Answer}
 use Rattle.coder.specs.State.{worked_in}
 use Rattle.coder.specs.Answers.{written, received, written_of, labels_after, read_of, bits_after, Sendable, Receivable}
 use Rattle.coder.proofs.Acceptance.{settings-sound, written_sendable, read_receivable}
@@ -62,7 +62,7 @@ module _
     write_unrefused = sym call.number ∙ zero
 
     pub written-answer : after ≡ words (coded_numbers (written_of st bits (length part)))
-    written-answer = call.next ∙ (sym (filled_up _ _ answer write_unrefused) ∙ ap (λ (x : Coded). words (coded_numbers x)) (sym written_is))
+    written-answer = call.next ∙ (sym (filled_up _ _ answer write_unrefused) ∙ ap (λ (x : Answer). words (coded_numbers x)) (sym written_is))
 
     -- the labels that it wrote, and that these are what the bytes hold
     pub written-labels : labels ≡ label_bytes (labels_after st bits part)
@@ -73,7 +73,7 @@ module _
     pub written_in : labels_in labels ≡ labels_after st bits part
     written_in =
         let b = reading-back st bits part bits written-zero refl in
-        let small = accepted-small st (labels_after st bits part) bits (ap (λ (x : Coded). x.refusal) b.answer ∙ written-zero) in
+        let small = accepted-small st (labels_after st bits part) bits (ap (λ (x : Answer). x.refusal) b.answer ∙ written-zero) in
         ap labels_in written-labels ∙ labels-back (labels_after st bits part) small
 
 -- A call of ww_read: what the coder was given, and what it leaves where it answers 0.
@@ -118,4 +118,4 @@ module _
     received_is = read-coded st labels lent answer given refl read-zero
 
     pub read_answer : after ≡ words (coded_numbers (read_of st given (length lent)))
-    read_answer = call.next ∙ (sym (filled_up _ _ answer read_unrefused) ∙ ap (λ (y : Coded). words (coded_numbers y)) (sym received_is))
+    read_answer = call.next ∙ (sym (filled_up _ _ answer read_unrefused) ∙ ap (λ (y : Answer). words (coded_numbers y)) (sym received_is))

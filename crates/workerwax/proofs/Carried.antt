@@ -13,7 +13,8 @@ use lib.Seq.{take_all}
 use borrow.Author.Tests.{leb-true, ltb-true}
 use Rattle.laws.specs.Lists.{Every}
 use Rattle.laws.proofs.Bools.{and_right, and_parts}
-use Rattle.sequences.specs.Table.{Field, fields_in, in_range, lies}
+use Rattle.sequences.specs.declared.Field.{Field}
+use Rattle.sequences.specs.Table.{fields_in, in_range, lies}
 use Rattle.sequences.specs.Sequence.{Sequence, is_whole}
 use Rattle.sequences.proofs.Sequences.{reads}
 use Rattle.sequences.proofs.Tables.{length-fields_in}

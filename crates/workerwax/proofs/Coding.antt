@@ -20,9 +20,14 @@ use Rattle.coder.specs.Answers.{exact, write_refusal, written, labels_of, writte
 use Rattle.coder.specs.Answers.{read_refusal, received, bits_of, read_of, bits_after, Receivable}
 use Rattle.coder.proofs.Acceptance.{settings-sound, passes-exact, sends, written_sendable, receives, read_receivable}
 use Rattle.coder.proofs.Back.{sends-labels, receives_bits}
-use Rattle.workerwax.specs.Calls.{exact_bytes, write_number, read_number, coded_numbers, WriteCall, ReadCall}
+use Rattle.workerwax.specs.Calls.{exact_bytes, state_numbers, write_number, read_number, coded_numbers, WriteCall, ReadCall}
 use Rattle.workerwax.specs.Layout.{words, label_bytes, labels_in}
 use Rattle.workerwax.specs.Lending.{lent_labels}
+use Rattle.refusals.specs.declared.Refusal.{Refusal}
+use Rattle.refusals.specs.Numbers.{number}
+use Rattle.refusals.proofs.Once.{some_number}
+use Rattle.std.specs.Prelude.{Ok, Err}
+use Rattle.coder.specs.Answers.{Answer, answered, WriteAnswer, ReadAnswer}
 use Rattle.workerwax.proofs.Lends.{LentBytes, lent-some, lent-within, exact_same, length-labels}
 use Rattle.workerwax.proofs.Refusals.{written-refusal, read-refusal}
 use Rattle.workerwax.proofs.Ways.{as_it_was, filled_up}
@@ -75,8 +80,32 @@ module _ (st : State) (bits labels answer part : List ℕ) (sized : length part 
         record {
           number = sym zero;
           labels = is-bytes ∙ (ap label_bytes write-labels ∙ filled_up _ _ labels zero);
-          next = is-after ∙ (ap (λ (r : Coded). words (coded_numbers r)) write-coded ∙ filled_up _ _ answer zero);
+          next = is-after ∙ (ap (λ (r : Answer). words (coded_numbers r)) write-coded ∙ filled_up _ _ answer zero);
         }
+
+-- what the writer's result tells of the call
+module _ (st : State) (bits labels answer part after : List ℕ) where
+  pub write_told :
+      (refusal : Refusal) → WriteAnswer st bits part (answered st (Err refusal)) after
+      → length part ≡ lent_labels (length labels) (length answer) → WriteCall st bits labels answer (number refusal) labels answer
+  write_told refusal told sized =
+      write-refused st bits labels answer part sized (number refusal) (ap (λ (x : Answer). x.refusal) told.answer) (some_number refusal)
+
+  module _
+      (coded : Coded) (told : WriteAnswer st bits part (answered st (Ok coded)) after)
+      (sized : length part ≡ lent_labels (length labels) (length answer)) where
+    unrefused : (written_of st bits (length part)).refusal ≡ 0
+    unrefused = sym (ap (λ (x : Answer). x.refusal) told.answer)
+
+    pub write_told-lent : LentBytes (length labels) (length answer) (length part)
+    write_told-lent = write-lent st bits labels answer part sized unrefused
+
+    pub write_told-done :
+        (bytes next : List ℕ) → bytes ≡ label_bytes after → next ≡ words (coded.bits ∷ state_numbers coded.state)
+        → WriteCall st bits labels answer 0 bytes next
+    write_told-done bytes next laid said =
+        write_done st bits labels answer part sized unrefused bytes next (laid ∙ ap label_bytes told.buffer)
+        (said ∙ ap (λ (x : Answer). words (coded_numbers x)) told.answer)
 
 -- refusal 8 hides what would be tested behind it
 eight-hides :
@@ -186,5 +215,29 @@ module _
         record {
           number = sym zero;
           bits = is-after ∙ (read-decoded ∙ filled_up _ _ bits zero);
-          next = is-next ∙ (ap (λ (x : Coded). words (coded_numbers x)) read-coded ∙ filled_up _ _ answer zero);
+          next = is-next ∙ (ap (λ (x : Answer). words (coded_numbers x)) read-coded ∙ filled_up _ _ answer zero);
         }
+
+-- what the reader's result tells of the call
+module _ (st : State) (labels bits answer given after : List ℕ) where
+  pub read_told :
+      (refusal : Refusal) → ReadAnswer st given bits (answered st (Err refusal)) after
+      → given ≡ labels_in (take (2 * lent_labels (length labels) (length answer)) labels)
+      → ReadCall st labels bits answer (number refusal) after answer
+  read_told refusal told is_given =
+      read-refused st labels bits answer given is_given (number refusal) after (ap (λ (x : Answer). x.refusal) told.answer) (some_number refusal)
+      told.buffer
+
+  module _
+      (coded : Coded) (told : ReadAnswer st given bits (answered st (Ok coded)) after)
+      (is_given : given ≡ labels_in (take (2 * lent_labels (length labels) (length answer)) labels)) where
+    accepted : (read_of st given (length bits)).refusal ≡ 0
+    accepted = sym (ap (λ (x : Answer). x.refusal) told.answer)
+
+    pub read_told-lent : LentBytes (length labels) (length answer) (lent_labels (length labels) (length answer))
+    read_told-lent = read-lent st labels bits answer given is_given accepted
+
+    pub read_told-done : (next : List ℕ) → next ≡ words (coded.bits ∷ state_numbers coded.state) → ReadCall st labels bits answer 0 after next
+    read_told-done next said =
+        read_done st labels bits answer given is_given accepted after next told.buffer
+        (said ∙ ap (λ (x : Answer). words (coded_numbers x)) told.answer)

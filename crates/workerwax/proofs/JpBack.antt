@@ -18,7 +18,7 @@ use Rattle.jp.specs.Jp.{jp, answer}
 use Rattle.jp.specs.Part.{part_of}
 use Rattle.jp.specs.Table22.{sent, sequence22, reserved_in}
 use Rattle.jp.specs.declared.sequence.Jp.{Jp}
-use Rattle.jp.specs.declared.sequence.JpRead.{JpRead}
+use Rattle.jp.specs.Jp.{JpRead}
 use Rattle.jp.proofs.Answers.{answer-read}
 use Rattle.jp.proofs.Parts.{part-fits}
 use Rattle.jp.proofs.Trips22.{received, fields-received, part-received, written, jp-read_back, jp-written-back}

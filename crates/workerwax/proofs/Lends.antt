@@ -13,8 +13,8 @@ use Rattle.line.specs.declared.settings.Settings.{Settings}
 use Rattle.line.proofs.Soundness.{Sound}
 use Rattle.coder.specs.Answers.{exact}
 use Rattle.workerwax.specs.Calls.{exact_bytes}
-use Rattle.workerwax.specs.Layout.{labels_in, rank_bytes, coded_bytes}
-use Rattle.workerwax.specs.Lending.{lent_labels, shown_rings}
+use Rattle.workerwax.specs.Layout.{labels_in, coded_bytes}
+use Rattle.workerwax.specs.Lending.{lent_labels}
 
 module _ (labels answer : ℕ) where
   abbrev whole : Bool
@@ -43,17 +43,6 @@ module _ (labels answer : ℕ) where
           let even = eqb-true (labels % 2) 0 inner.1 in
           record { answered = eqb-true _ _ outer.0; most = leb-true labels 512 inner.0; half = omega (arith, even) }
 
-  pub lent-most : lent_labels labels answer ≤ 256
-  unfolding lent_labels
-  lent-most = go fitting refl
-    where
-      go : (v : Bool) → fitting ≡ v → cond v (labels / 2) 0 ≤ 256
-      go false e = omega arith
-      go true e =
-          let outer = and_parts whole halves e in
-          let inner = and_parts (leb labels 512) _ outer.1 in
-          omega (arith, leb-true labels 512 inner.0)
-
   pub lent-within : 2 * lent_labels labels answer ≤ labels
   unfolding lent_labels
   lent-within = go fitting
@@ -69,15 +58,6 @@ module _ (labels answer : ℕ) where
       let within = and_both (leb labels 512) (eqb (labels % 2) 0) (le-leb labels 512 (omega arith)) (eq-eqb (labels % 2) 0 even) in
       let fits = and_both whole halves (eq-eqb _ _ e) within in
       ap (λ (v : Bool). cond v (labels / 2) 0) fits ∙ omega (arith, half)
-
--- the ranker is shown no more rings than there are
-pub shown-within : (rings answer : ℕ) → shown_rings rings answer ≤ rings
-unfolding shown_rings
-shown-within rings answer = go (eqb answer rank_bytes)
-  where
-    go : (v : Bool) → cond v rings 0 ≤ rings
-    go true = omega arith
-    go false = omega arith
 
 -- the coder's own test, and the test of every length
 pub exact_same :

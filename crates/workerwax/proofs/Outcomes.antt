@@ -10,7 +10,7 @@ use Rattle.info.specs.Info1c.{info1c}
 use Rattle.jp.specs.Jp.{jp}
 use Rattle.jp.proofs.Trips22.{one_jp-written}
 use Rattle.coder.specs.declared.states.State.{State}
-use Rattle.coder.specs.declared.states.Started.{Started}
+use Rattle.coder.specs.State.{Started}
 use Rattle.workerwax.specs.Calls.{ParametersCall, RankCall, StartCall, WriteCall, ReadCall}
 use Rattle.workerwax.specs.Info.{SequenceReadCall, SequenceWriteCall, Info0ReadCall, Info0WriteCall, as_they_are}
 use Rattle.workerwax.specs.Info.{Info1cReadCall, Info1cWriteCall, count_in10, reported}

@@ -18,7 +18,7 @@ use lib.ListN.{length, get_or}
 use Rattle.listing.specs.Sets.{Eight, Below8, as_list, of_list}
 use Rattle.listing.specs.Order.{standing}
 use Rattle.rings.specs.Mapping.{Permitted, map_refusal, map_out, MapAnswer, rank_refusal, ranked_of}
-use Rattle.rings.specs.declared.entry.Ranked.{Ranked}
+use Rattle.rings.specs.Mapping.{Ranked}
 use Rattle.rings.proofs.Acceptance.{ranker_accepts}
 use Rattle.rings.proofs.Demand3.{mapped, ranked}
 use Rattle.rings.proofs.Demand3.{maps_by_standing as set-by-standing, ranks_by_standing as place-by-standing}

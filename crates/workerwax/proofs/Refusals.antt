@@ -17,7 +17,7 @@ use Rattle.line.specs.Settings.{worked_of, number_of}
 use Rattle.line.proofs.Acceptance.{number-most}
 use Rattle.sequences.specs.Sequence.{Sequence, fields_tests, sequence_tests, fields_refusal, sequence_refusal}
 use Rattle.coder.specs.declared.states.State.{State}
-use Rattle.coder.specs.declared.states.Coded.{Coded}
+use Rattle.coder.specs.Answers.{Answer}
 use Rattle.coder.specs.State.{worked_in, state_refusal_of, started_of, short_started_of}
 use Rattle.coder.specs.Answers.{write_refusal, read_refusal, written, received, written_of, read_of}
 use Rattle.coder.proofs.Starting.{plain}
@@ -55,7 +55,7 @@ short_start-narrow role s n mark = start-narrow (plain role s n mark)
 
 -- The writer's and the reader's number is the refusal of their tests.
 chosen :
-    (number : ℕ) (done : Coded) (st : State) → (number ≡ 0 → done.refusal ≡ number)
+    (number : ℕ) (done : Answer) (st : State) → (number ≡ 0 → done.refusal ≡ number)
     → (cond (eqb number 0) done (record { refusal = number; bits = 0; state = st })).refusal ≡ number
 chosen number done st h = go (eqb number 0) refl
   where

@@ -20,12 +20,12 @@ use Rattle.sequences.proofs.Sequences.{reads}
 use Rattle.sequences.proofs.Tables.{length-fields_in}
 use Rattle.offset.specs.Hertz.{reading_of, is_reading, pattern_of}
 use Rattle.offset.specs.Signed.{signed, unsigned}
-use Rattle.offset.specs.declared.reading.Reading.{Reading}
+use Rattle.std.specs.Prelude.{Float, Option}
 use Rattle.offset.proofs.Readings.{reading_exactly, blank_exactly, is_reading_exactly, is_reading-bit, pattern-fits}
 use Rattle.offset.proofs.Signs.{signed-unsigned, unsigned-held, signed-held, more_and_back, back_and_more}
 use Rattle.info.specs.Info1c.{block, info1c, numbers_of, fields_of, count_of, report}
 use Rattle.info.specs.declared.info1c.Info1c.{Info1c}
-use Rattle.info.specs.declared.info1c.Report.{Report}
+use Rattle.info.specs.Info1c.{Report}
 use Rattle.info.proofs.Reports.{report-read, count_held}
 use Rattle.info.proofs.Rows15.{whole1c, last_held, Said, numbers_said, MaySay, printed15}
 use Rattle.workerwax.specs.Info.{in32, count_in32, count_in10, reading_numbers, reported, Info1cReadCall}
@@ -198,9 +198,9 @@ module _ (bits lent : List ℕ) (r : ℕ) (after : List ℕ) (call : Info1cReadC
       → hertz_in after ≡ lowest_first 8 (to_bits binary64 (div binary64 (of_int binary64 (report bits).count) (of_int binary64 (pos 50))))
   hertz_bytes one =
       let other : (report bits).count ≡ negsuc 511 → ⊥ = λ e. omega (arith, one, flag_exactly.1 e) in
-      hertz_are ∙ ap (λ (q : Reading). lowest_first 8 (pattern_of q)) (reading_exactly (report bits).count other)
+      hertz_are ∙ ap (λ (q : Option Float). lowest_first 8 (pattern_of q)) (reading_exactly (report bits).count other)
 
   pub no_hertz_bytes : flag_in after ≡ 0 → hertz_in after ≡ replicate 8 0
   no_hertz_bytes none =
       hertz_are
-      ∙ ap (λ (q : Reading). lowest_first 8 (pattern_of q)) ((blank_exactly (report bits).count).1 (flag_exactly.0 none))
+      ∙ ap (λ (q : Option Float). lowest_first 8 (pattern_of q)) ((blank_exactly (report bits).count).1 (flag_exactly.0 none))

@@ -1,4 +1,4 @@
--- The answer of each call by its ways out: refused by a part of it, refused for a length, or done. Assumes nothing.
+-- The answer of ww_rank by its ways out: refused by the ranker, or done. Assumes nothing.
 use mathlib.Core.Bool.{Bool, true, false, not, ◌&&◌}
 use mathlib.Core.List.{List, [], ◌∷◌}
 use mathlib.Core.Path.{◌≡◌, refl, sym, ap, ◌∙◌}
@@ -13,17 +13,16 @@ use Rattle.laws.proofs.Bools.{and_right}
 use Rattle.laws.proofs.Choices.{given as given-first}
 use Rattle.listing.specs.Sets.{of_list}
 use Rattle.listing.specs.Number.{number}
-use Rattle.rings.specs.Mapping.{rank_refusal, ranked_of}
+use Rattle.rings.specs.Mapping.{rank_refusal, Ranked, ranked, ranked_of}
 use Rattle.rings.proofs.Answering.{first_tests}
-use Rattle.line.specs.declared.asked.Asked.{Asked}
-use Rattle.line.specs.declared.settings.Settings.{Settings}
-use Rattle.line.specs.Worked.{Accepted, Refused}
-use Rattle.line.specs.Settings.{worked_of, values_of}
-use Rattle.coder.specs.declared.states.Started.{Started}
-use Rattle.line.proofs.Acceptance.{refused-some}
-use Rattle.workerwax.specs.Calls.{filled, own, start_number, ParametersCall, StartCall, RankCall, rank_number, state_numbers}
-use Rattle.workerwax.specs.Layout.{word, words, parameters_bytes, rank_bytes, start_bytes}
+use Rattle.workerwax.proofs.Layouts.{words_one}
+use Rattle.workerwax.specs.Calls.{filled, own, RankCall, rank_number}
+use Rattle.workerwax.specs.Layout.{word, words, rank_bytes}
 use Rattle.workerwax.specs.Lending.{shown_rings}
+use Rattle.refusals.specs.declared.Refusal.{Refusal}
+use Rattle.refusals.specs.Numbers.{number as refusal_number}
+use Rattle.refusals.proofs.Once.{some_number}
+use Rattle.std.specs.Prelude.{Ok, Err}
 
 -- a slice that a refused call leaves, and one that a call fills
 pub as_it_was : (n : ℕ) (given before : List ℕ) → (n ≡ 0 → ⊥) → before ≡ filled n given before
@@ -35,46 +34,6 @@ filled_up n given before e = rw e
 -- a part's own refusal, where there is one
 pub own-given : (n : ℕ) (rest : List (Bool × ℕ)) → (n ≡ 0 → ⊥) → refusal (own n ∷ rest) ≡ n
 own-given n rest some = given-first (not (eqb n 0)) n rest (ap not (ne_eqb n 0 some))
-
--- ww_parameters.
-module _ (asked : Asked) (answer : List ℕ) where
-  pub parameters_refused :
-      (k : ℕ) → worked_of asked ≡ Refused k → ParametersCall (worked_of asked) answer k answer
-  parameters_refused k e =
-      let some = refused-some asked k e in
-      let own = own-given k ((not (eqb (length answer) parameters_bytes), 8) ∷ []) some in
-      record { number = rw (e, own); values = rw (e, own) (as_it_was k _ answer some) }
-
-  pub parameters_unlent :
-      (c : Settings) → worked_of asked ≡ Accepted c → (length answer ≡ parameters_bytes → ⊥)
-      → ParametersCall (worked_of asked) answer 8 answer
-  unfolding refusal
-  parameters_unlent c e wrong =
-      let other = ne_eqb (length answer) parameters_bytes wrong in
-      record { number = rw (e, other); values = rw (e, other) }
-
-  pub parameters_done :
-      (c : Settings) (after : List ℕ) → worked_of asked ≡ Accepted c → length answer ≡ parameters_bytes
-      → after ≡ words (values_of (Accepted c)) → ParametersCall (worked_of asked) answer 0 after
-  unfolding refusal
-  parameters_done c after e exact is = record { number = rw (e, exact); values = rw (e, exact) is }
-
--- ww_start and ww_short_start.
-module _ (begun : Started) (answer : List ℕ) where
-  pub start-refused : (begun.refusal ≡ 0 → ⊥) → StartCall begun answer begun.refusal answer
-  start-refused some =
-      let own : start_number begun (length answer) ≡ begun.refusal = own-given begun.refusal _ some in
-      record { number = sym own; state = rw own (as_it_was begun.refusal _ answer some) }
-
-  pub start_unlent : begun.refusal ≡ 0 → (length answer ≡ start_bytes → ⊥) → StartCall begun answer 8 answer
-  unfolding refusal
-  start_unlent e wrong = let other = ne_eqb _ _ wrong in record { number = rw (e, other); state = rw (e, other) }
-
-  pub start-done :
-      (after : List ℕ) → begun.refusal ≡ 0 → length answer ≡ start_bytes → after ≡ words (state_numbers begun.state)
-      → StartCall begun answer 0 after
-  unfolding refusal
-  start-done after e exact is = record { number = rw (e, exact); state = rw (e, exact) is }
 
 -- a test and one that passes, and a test and one that fails
 pub and_last : (b : Bool) → (b && true) ≡ b
@@ -136,3 +95,22 @@ module _ (K M : ℕ) (rings answer : List ℕ) where
         let none : rank_refusal (eqb (length rings) 8) K M rings ≡ 0 = sym (rank_same rank-four) ∙ zero in
         let place : (ranked_of K M shown).number ≡ number M (of_list rings) = rw (all, none) in
         record { refusal = sym zero; place = is ∙ (ap word place ∙ filled_up _ _ answer zero) }
+
+-- What the ranker's result tells of the call.
+module _ (K M : ℕ) (rings answer : List ℕ) (k : ℕ) (is : k ≡ shown_rings (length rings) (length answer)) where
+  pub rank-told :
+      (refusal : Refusal) → ranked (Err refusal) ≡ ranked_of K M (take k rings) → RankCall K M rings answer (refusal_number refusal) answer
+  rank-told refusal e =
+      rank-refused K M rings answer _ (ap (λ (r : Ranked). r.refusal) (rw is at e)) (some_number refusal)
+
+  module _ (n : ℕ) (e : ranked (Ok n) ≡ ranked_of K M (take k rings)) where
+    none : (ranked_of K M (shown K M rings answer)).refusal ≡ 0
+    none = sym (ap (λ (r : Ranked). r.refusal) (rw is at e))
+
+    pub rank_told-four : length answer ≡ rank_bytes
+    rank_told-four = rank-four K M rings answer none
+
+    pub rank_told-done : (after : List ℕ) → after ≡ words (n ∷ []) → RankCall K M rings answer 0 after
+    rank_told-done after laid =
+        rank-done K M rings answer none after
+        (laid ∙ (words_one n ∙ ap (λ (r : Ranked). word r.number) (rw is at e)))

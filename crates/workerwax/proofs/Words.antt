@@ -19,8 +19,8 @@ use Rattle.line.specs.Settings.{worked_of, values_of}
 use Rattle.line.proofs.Acceptance.{accepted-when}
 use Rattle.line.proofs.Soundness.{Sound, accepted-sound, rate-most, values-most}
 use Rattle.coder.specs.declared.states.State.{State}
-use Rattle.coder.specs.declared.states.Started.{Started}
-use Rattle.coder.specs.declared.states.Coded.{Coded}
+use Rattle.coder.specs.State.{Started}
+use Rattle.coder.specs.Answers.{Answer}
 use Rattle.coder.specs.State.{worked_in, started_of}
 use Rattle.coder.specs.Answers.{written, received, written_of, read_of}
 use Rattle.coder.proofs.Acceptance.{settings-sound}
@@ -51,7 +51,7 @@ state-short st fit =
     )
 
 -- and so has the answer to an accepted data frame, N before it
-coded-short : (c : Settings) (coded : Coded) → Sound c → coded.bits ≡ c.bits → Fit coded.state → Every FourBytes (coded_numbers coded)
+coded-short : (c : Settings) (coded : Answer) → Sound c → coded.bits ≡ c.bits → Fit coded.state → Every FourBytes (coded_numbers coded)
 coded-short c coded sound count fit = (omega (arith, count, sound.bits_most), state-short coded.state fit)
 
 -- ww_parameters: N P b r K q M L.
@@ -90,7 +90,7 @@ pub record Next (st : State) (after : List ℕ) : Type 0 where
 
 -- Whichever way the data frame went: `coded` is the answer, with the settings c of the state.
 module _
-    (st : State) (c : Settings) (coded : Coded) (after : List ℕ)
+    (st : State) (c : Settings) (coded : Answer) (after : List ℕ)
     (worked : worked_in st ≡ Accepted c) (count : coded.bits ≡ c.bits) (fit : Fit coded.state) (is : after ≡ words (coded_numbers coded))
   where
     words-say : numbers_in after ≡ coded_numbers coded
@@ -108,7 +108,7 @@ module _
 
 -- ww_write.
 module _ (st : State) (bits lent answer labels after : List ℕ) (call : WriteCall st bits lent answer 0 labels after) where
-  abbrev coded : Coded
+  abbrev coded : Answer
   coded = written (worked_in st) st bits
 
   -- what the coder below was lent
@@ -130,10 +130,10 @@ module _ (st : State) (bits lent answer labels after : List ℕ) (call : WriteCa
   onward : Fit coded.state
   onward =
       let w = (sendable st bits lent answer 0 labels after call refl).1 in
-      subst (λ (x : Coded). Fit x.state) is_coded (write-stays st bits out (worked_fit st found worked w.held w.turn))
+      subst (λ (x : Answer). Fit x.state) is_coded (write-stays st bits out (worked_fit st found worked w.held w.turn))
 
   laid : after ≡ words (coded_numbers coded)
-  laid = written-answer st bits lent answer 0 labels after call refl ∙ ap (λ (x : Coded). words (coded_numbers x)) is_coded
+  laid = written-answer st bits lent answer 0 labels after call refl ∙ ap (λ (x : Answer). words (coded_numbers x)) is_coded
 
   pub write-words : numbers_in after ≡ coded_numbers (written (worked_in st) st bits)
   write-words = words-say st found coded after worked count onward laid
@@ -144,13 +144,13 @@ module _ (st : State) (bits lent answer labels after : List ℕ) (call : WriteCa
   pub write_last : get_or (numbers_in after) 7 0 ≡ last_z (labels_in labels)
   write_last =
       ap (λ (l : List ℕ). get_or l 7 0) write-words
-      ∙ (ap (λ (x : Coded). x.state.z) (sym is_coded)
+      ∙ (ap (λ (x : Answer). x.state.z) (sym is_coded)
       ∙ (written-z st bits out (written-zero st bits lent answer 0 labels after call refl)
       ∙ ap last_z (sym (written_in st bits lent answer 0 labels after call refl))))
 
 -- ww_read: the same.
 module _ (st : State) (labels lent answer bits after : List ℕ) (call : ReadCall st labels lent answer 0 bits after) where
-  abbrev decoded : Coded
+  abbrev decoded : Answer
   decoded = received (worked_in st) st (labels_in labels)
 
   -- what the coder below was given
@@ -172,10 +172,10 @@ module _ (st : State) (labels lent answer bits after : List ℕ) (call : ReadCal
   onward_read : Fit decoded.state
   onward_read =
       let w = (receivable st labels lent answer 0 bits after call refl).1 in
-      subst (λ (x : Coded). Fit x.state) is_decoded (read_stays st taken lent (worked_fit st found-read worked-read w.held w.turn))
+      subst (λ (x : Answer). Fit x.state) is_decoded (read_stays st taken lent (worked_fit st found-read worked-read w.held w.turn))
 
   laid-read : after ≡ words (coded_numbers decoded)
-  laid-read = read_answer st labels lent answer 0 bits after call refl ∙ ap (λ (x : Coded). words (coded_numbers x)) is_decoded
+  laid-read = read_answer st labels lent answer 0 bits after call refl ∙ ap (λ (x : Answer). words (coded_numbers x)) is_decoded
 
   pub read-words : numbers_in after ≡ coded_numbers (received (worked_in st) st (labels_in labels))
   read-words = words-say st found-read decoded after worked-read count-read onward_read laid-read
@@ -186,6 +186,6 @@ module _ (st : State) (labels lent answer bits after : List ℕ) (call : ReadCal
   pub read_last : get_or (numbers_in after) 7 0 ≡ last_z (labels_in labels)
   read_last =
       ap (λ (l : List ℕ). get_or l 7 0) read-words
-      ∙ (ap (λ (x : Coded). x.state.z) (sym is_decoded)
+      ∙ (ap (λ (x : Answer). x.state.z) (sym is_decoded)
       ∙ (read-z st taken lent (read-zero st labels lent answer 0 bits after call refl)
       ∙ ap last_z (read-given st labels lent answer 0 bits after call refl)))

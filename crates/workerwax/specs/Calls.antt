@@ -34,8 +34,8 @@ use Rattle.line.specs.declared.settings.Settings.{Settings}
 use Rattle.line.specs.Worked.{Worked, Accepted, Refused}
 use Rattle.line.specs.Settings.{number_of, values_of}
 use Rattle.coder.specs.declared.states.State.{State}
-use Rattle.coder.specs.declared.states.Started.{Started}
-use Rattle.coder.specs.declared.states.Coded.{Coded}
+use Rattle.coder.specs.State.{Started}
+use Rattle.coder.specs.Answers.{Answer}
 use Rattle.coder.specs.State.{worked_in}
 use Rattle.coder.specs.Answers.{write_tests, read_tests, written, received, labels_of, bits_of}
 use Rattle.workerwax.specs.Layout.{word, words, label_bytes, labels_in, parameters_bytes, rank_bytes, start_bytes, coded_bytes}
@@ -86,7 +86,7 @@ abbrev pub exact_bytes : Settings → ℕ → ℕ → ℕ → Bool
 exact_bytes c bits labels answer = eqb bits c.user && (eqb labels (32 * c.frames) && eqb answer coded_bytes)
 
 -- N, and the state that comes next
-abbrev pub coded_numbers : Coded → List ℕ
+abbrev pub coded_numbers : Answer → List ℕ
 coded_numbers coded = coded.bits ∷ state_numbers coded.state
 
 -- ww_write: settings, state, lengths, bits

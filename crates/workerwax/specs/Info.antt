@@ -8,13 +8,12 @@
 --
 -- A call is said of any sequence, so that each sequence is a row: its picture and table, how many bytes it answers with or is handed, and
 -- how the numbers of the fields stand in them. (The rows of Jp are on a page of their own.)
-use Rattle.std.specs.Prelude.{◌&&◌, List, [], ◌∷◌, ◌++◌, ◌≡◌, ℕ, eqb, ℤ, length, get_or}
+use Rattle.std.specs.Prelude.{Float, Option, ◌&&◌, List, ◌∷◌, ◌++◌, ◌≡◌, ℕ, eqb, ℤ, length, get_or}
 use Rattle.laws.specs.Choice.{refusal}
 use Rattle.sequences.specs.Table.{fields_in}
 use Rattle.sequences.specs.Sequence.{Sequence, fields_tests, sequence_tests, sequence_of, is_long}
 use Rattle.offset.specs.Hertz.{reading_of, is_reading, pattern_of}
 use Rattle.offset.specs.Signed.{signed, unsigned}
-use Rattle.offset.specs.declared.reading.Reading.{Reading}
 use Rattle.info.specs.Info0.{info0}
 use Rattle.info.specs.Info1c.{info1c, numbers_of, fields_of, count_of, count_bits}
 use Rattle.workerwax.specs.Calls.{filled}
@@ -71,7 +70,7 @@ unfoldable pub count_in10 : List ℕ → List ℕ
 count_in10 numbers = numbers_of (fields_of numbers) (count_bits (from32 (get_or numbers 21 0)))
 
 -- the offset in hertz: 1 or 0, whether there is a reading, and then its bit pattern
-abbrev pub reading_numbers : Reading → List ℕ
+abbrev pub reading_numbers : Option Float → List ℕ
 reading_numbers reading = is_reading reading ∷ halves (pattern_of reading)
 
 -- the bytes of a report

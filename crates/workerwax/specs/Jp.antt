@@ -7,9 +7,8 @@ use Rattle.std.specs.Prelude.{List, ◌∷◌, ℕ}
 use Rattle.std.specs.Float.{binary64}
 use Rattle.std.specs.Float.Ieee.{to_bits}
 use Rattle.sequences.specs.Sequence.{sequence_refusal, SequenceAnswer}
-use Rattle.jp.specs.Jp.{jp, sent_numbers, answer_of}
+use Rattle.jp.specs.Jp.{JpRead, jp, sent_numbers, answer_of}
 use Rattle.jp.specs.declared.sequence.Jp.{Jp}
-use Rattle.jp.specs.declared.sequence.JpRead.{JpRead}
 use Rattle.workerwax.specs.Info.{sequence_read_number, SequenceReadCall}
 use Rattle.workerwax.specs.Layout.{words, halves, jp_bytes}
 

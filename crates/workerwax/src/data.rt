@@ -1,54 +1,39 @@
 // One data frame: bits to the bytes of labels, and back.
-ghost use Rattle.std.specs.Prelude.{◌≡◌, length};
+ghost use Rattle.std.specs.Prelude.{◌≡◌, ◌≤◌, ◌*◌, Ok};
+ghost use Rattle.refusals.specs.Numbers.{code};
 ghost use Rattle.line.specs.Asked.{asked};
 ghost use Rattle.coder.specs.State.{state_of};
+ghost use Rattle.coder.specs.Answers.{answered};
 ghost use Rattle.workerwax.specs.Calls.{WriteCall, ReadCall, coded_numbers};
 ghost use Rattle.workerwax.specs.Lending.{lent_labels};
 
 use crate::asked::asked_of;
-use crate::layout::{narrow, put_labels, put_words, take_labels};
+use crate::layout::{put_numbers, take_numbers};
+use crate::starting::numbers_of;
 use coder::{Coded, State};
-
-// Room for the labels of any data frame.
-fn blank() -> [u16; 256]
-    ensures { length result ≡ 256 }
-{
-    [0; 256]
-}
+use refusals::{Refusal, code};
 
 // How many labels the coder is lent for slices of these lengths. No data frame has 0 labels, so the coder then refuses with 8, in its
 // place among the other refusals, and no order is said twice.
+#[tactic(auto, using(std::proofs::lemmas::Bool::Decides::nat_tests), unfolding(crate::specs::Lending::lent_labels))]
 fn lent_labels(labels: usize, answer: usize) -> usize
-    ensures { result ≡ lent_labels labels answer }
+    ensures value { result ≡ lent_labels labels answer }
+    ensures most { result ≤ 256 }
+    ensures within { 2 * result ≤ labels }
 {
-    if answer != 32 {
-        return 0;
+    if answer == 32 && labels <= 512 && labels % 2 == 0 {
+        labels / 2
+    } else {
+        0
     }
-    if labels > 512 {
-        return 0;
-    }
-    if labels % 2 != 0 {
-        return 0;
-    }
-    labels / 2
 }
 
 // N, and the numbers of the state that comes next.
-fn numbers_of(coded: Coded) -> [u64; 8]
-    ensures { result ≡ coded_numbers coded }
+fn coded_numbers(coded: Coded) -> [u64; 8]
+    ensures { result ≡ coded_numbers (answered coded.state (Ok coded)) }
 {
-    let st = coded.state;
-    let asked = st.asked;
-    [
-        coded.bits,
-        asked.role,
-        asked.s,
-        asked.n,
-        asked.shaping,
-        asked.mark,
-        st.register,
-        st.z,
-    ]
+    let [role, s, n, shaping, mark, register, z] = numbers_of(coded.state);
+    [coded.bits, role, s, n, shaping, mark, register, z]
 }
 
 // The labels of a data frame's bits, two bytes each, low byte first, and the state that comes next.
@@ -68,15 +53,19 @@ pub fn ww_write(
 {
     let asked = asked_of(role, s, n, shaping, mark);
     let st = State { asked, register, z };
+    code(answer_write(st, bits, labels, answer))
+}
+
+fn answer_write(st: State, bits: &[u8], labels: &mut [u8], answer: &mut [u8]) -> Result<(), Refusal>
+    ensures { WriteCall st bits.now labels.old answer.old (code result) labels.new answer.new }
+{
     let lent = lent_labels(labels.len(), answer.len());
-    let mut space = blank();
-    let coded = writer::write(st, bits, &mut space[..lent]);
-    if coded.refusal != 0 {
-        return narrow(coded.refusal);
-    }
-    put_labels(labels, &space[..lent]);
-    put_words(answer, &numbers_of(coded));
-    0
+    let mut room = [0; 256];
+    let space = &mut room[..lent];
+    let coded = writer::write(st, bits, space)?;
+    put_numbers(labels, space);
+    put_numbers(answer, &coded_numbers(coded));
+    Ok(())
 }
 
 // The bits of a data frame's labels, and the state that comes next.
@@ -96,13 +85,17 @@ pub fn ww_read(
 {
     let asked = asked_of(role, s, n, shaping, mark);
     let st = State { asked, register, z };
+    code(answer_read(st, labels, bits, answer))
+}
+
+fn answer_read(st: State, labels: &[u8], bits: &mut [u8], answer: &mut [u8]) -> Result<(), Refusal>
+    ensures { ReadCall st labels.now bits.old answer.old (code result) bits.new answer.new }
+{
     let lent = lent_labels(labels.len(), answer.len());
-    let mut space = blank();
-    take_labels(&labels[..2 * lent], &mut space[..lent]);
-    let coded = reader::read(st, &space[..lent], bits);
-    if coded.refusal != 0 {
-        return narrow(coded.refusal);
-    }
-    put_words(answer, &numbers_of(coded));
-    0
+    let mut room = [0; 256];
+    let space = &mut room[..lent];
+    take_numbers(&labels[..2 * lent], space);
+    let coded = reader::read(st, space, bits)?;
+    put_numbers(answer, &coded_numbers(coded));
+    Ok(())
 }

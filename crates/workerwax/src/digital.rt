@@ -1,23 +1,26 @@
 // The sequence Jp, by which a digital modem tells the analogue one how to send (V.92, clause 8.6.3): bits to fields, and back.
-ghost use Rattle.std.specs.Prelude.{not, ◌≡◌, T};
+ghost use Rattle.std.specs.Prelude.{not, ◌≡◌, T, Ok};
 ghost use Rattle.std.specs.Float.Ieee.{is_nan};
+ghost use Rattle.refusals.specs.Numbers.{code};
+ghost use Rattle.jp.specs.Jp.{told};
 ghost use Rattle.workerwax.specs.Jp.{answer_numbers, JpReadCall, JpWriteCall};
 
-use crate::layout::{halves_of, narrow, put_words};
+use crate::layout::{halves_of, put_numbers};
 use jp::sequence::{Jp, JpRead, read, write};
+use refusals::{Refusal, code};
 
 // The fields, and the bit pattern of the fraction as a part of a symbol in two halves, the lower one first.
 fn answer_numbers(heard: JpRead) -> [u64; 5]
     requires { T (not (is_nan heard.part)) }
-    ensures { result ≡ answer_numbers heard }
+    ensures { result ≡ answer_numbers (told (Ok heard)) }
 {
-    let halves = halves_of(f64::to_bits(heard.part));
+    let [low, high] = halves_of(f64::to_bits(heard.part));
     [
         heard.fields.fraction,
         heard.fields.training,
         heard.fields.renegotiation,
-        halves[0],
-        halves[1],
+        low,
+        high,
     ]
 }
 
@@ -25,15 +28,18 @@ fn answer_numbers(heard: JpRead) -> [u64; 5]
 pub fn ww_jp_read(bits: &[u8], answer: &mut [u8]) -> u32
     ensures { JpReadCall bits.now answer.old result answer.new }
 {
+    code(answer_jp(bits, answer))
+}
+
+fn answer_jp(bits: &[u8], answer: &mut [u8]) -> Result<(), Refusal>
+    ensures { JpReadCall bits.now answer.old (code result) answer.new }
+{
     if answer.len() != 20 {
-        return 8;
+        return Err(Refusal::WrongLength);
     }
-    let heard = read(bits);
-    if heard.refusal != 0 {
-        return narrow(heard.refusal);
-    }
-    put_words(answer, &answer_numbers(heard));
-    0
+    let heard = read(bits)?;
+    put_numbers(answer, &answer_numbers(heard));
+    Ok(())
 }
 
 // The Jp sequence of a fraction and both sizes.
@@ -45,5 +51,5 @@ pub fn ww_jp_write(fraction: u64, training: u64, renegotiation: u64, bits: &mut 
         training,
         renegotiation,
     };
-    narrow(write(fields, bits))
+    code(write(fields, bits))
 }

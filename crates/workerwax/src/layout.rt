@@ -1,53 +1,121 @@
 // Numbers and labels in bytes, lowest first.
-ghost use Rattle.std.specs.Prelude.{◌≡◌, ◌+◌, ◌*◌, ◌^◌, ◌≤◌, ◌<◌, length};
-ghost use Rattle.laws.specs.Put.{Put};
-ghost use Rattle.workerwax.specs.Layout.{word, words, numbers_in, halves, label_bytes, labels_in};
+ghost use Rattle.std.specs.Prelude.{ℕ, List, [], ◌∷◌, ◌++◌, ◌≡◌, ◌*◌, length};
+ghost use Rattle.workerwax.specs.Layout.{halves};
 
-// A refusal number as C gets it.
-pub fn narrow(refusal: u64) -> u32
-    requires { refusal < 2 ^ 32 }
-    ensures { result ≡ refusal }
-{
-    refusal as u32
-}
+// A number that is laid out in WIDTH bytes, the lowest first.
+pub trait LowestFirst<const WIDTH: usize>: Copy {
+    // The bytes of one, and of several, one after the other with nothing between.
+    ghost bytes_of: { Self → List ℕ };
 
-// One number into four bytes from a place on; answers the place behind it.
-pub fn put_word(out: &mut [u8], at: usize, n: u64) -> usize
-    requires { at + 4 ≤ length out.old }
-    ensures { Put (word n) out.old out.new at result }
-{
-    out[at] = (n % 256) as u8;
-    out[at + 1] = (n / 256 % 256) as u8;
-    out[at + 2] = (n / 65536 % 256) as u8;
-    out[at + 3] = (n / 16777216 % 256) as u8;
-    at + 4
+    ghost laid: { List Self → List ℕ };
+
+    // The number that WIDTH bytes hold, and those that any bytes hold.
+    ghost number_in: { List ℕ → Self };
+
+    ghost held: { List ℕ → List Self };
+
+    fn to_bytes(self) -> [u8; WIDTH]
+        ensures { result ≡ bytes_of self };
+
+    fn from_bytes(bytes: &[u8; WIDTH]) -> Self
+        ensures { result ≡ number_in bytes.now };
+
+    ghost laid_none: { laid [] ≡ [] };
+
+    ghost laid_more: { (n : Self) (others : List Self) → laid (n ∷ others) ≡ bytes_of n ++ laid others };
+
+    ghost held_none: { held [] ≡ [] };
+
+    ghost held_more: { (front rest : List ℕ) → length front ≡ WIDTH → held (front ++ rest) ≡ number_in front ∷ held rest };
 }
 
 // Numbers into a slice that has just their bytes.
-pub fn put_words(out: &mut [u8], numbers: &[u64])
-    requires { length out.old ≡ 4 * length numbers.now }
-    ensures { out.new ≡ words numbers.now }
+pub fn put_numbers<const WIDTH: usize, N: LowestFirst<WIDTH>>(out: &mut [u8], numbers: &[N])
+    requires { length out.old ≡ WIDTH * length numbers.now }
+    ensures { out.new ≡ N.laid numbers.now }
 {
-    let mut next = 0;
-    let mut i = 0;
-    while i < numbers.len() {
-        next = put_word(out, next, numbers[i]);
-        i += 1;
+    for (i, number) in numbers.iter().enumerate() {
+        let at = WIDTH * i;
+        out[at..at + WIDTH].copy_from_slice(&number.to_bytes());
     }
 }
 
 // Numbers out of a slice that has just their bytes.
-pub fn take_words(bytes: &[u8], numbers: &mut [u64])
-    requires { length bytes.now ≡ 4 * length numbers.old }
-    ensures { numbers.new ≡ numbers_in bytes.now }
+pub fn take_numbers<const WIDTH: usize, N: LowestFirst<WIDTH>>(bytes: &[u8], numbers: &mut [N])
+    requires { length bytes.now ≡ WIDTH * length numbers.old }
+    ensures { numbers.new ≡ N.held bytes.now }
 {
-    let mut k = 0;
-    while k < numbers.len() {
-        let at = 4 * k;
-        let low = bytes[at] as u64 + 256 * bytes[at + 1] as u64;
-        let high = bytes[at + 2] as u64 + 256 * bytes[at + 3] as u64;
-        numbers[k] = low + 65536 * high;
-        k += 1;
+    let mut left = bytes;
+    for number in numbers.iter_mut() {
+        let Some((front, rest)) = left.split_first_chunk() else {
+            unreachable!()
+        };
+        *number = N::from_bytes(front);
+        left = rest;
+    }
+}
+
+// A number: four bytes, of its 32 lowest bits.
+impl LowestFirst<4> for u64 {
+    ghost use Rattle.std.specs.Int.{w32, from_le_bytes};
+    ghost use Rattle.workerwax.specs.Layout.{word, words, numbers_in};
+    ghost use Rattle.workerwax.specs.Laws.{words_none, words_more, no_numbers, numbers_more};
+
+    ghost bytes_of = { word };
+
+    ghost laid = { words };
+
+    ghost number_in = { from_le_bytes w32 };
+
+    ghost held = { numbers_in };
+
+    ghost laid_none = { words_none };
+
+    ghost laid_more = { words_more };
+
+    ghost held_none = { no_numbers };
+
+    ghost held_more = { numbers_more };
+
+    #[tactic(auto, unfolding(crate::specs::Layout::word))]
+    fn to_bytes(self) -> [u8; 4] {
+        let [a, b, c, d, ..] = self.to_le_bytes();
+        [a, b, c, d]
+    }
+
+    fn from_bytes(bytes: &[u8; 4]) -> u64 {
+        u64::from(u32::from_le_bytes(*bytes))
+    }
+}
+
+// A label: two bytes.
+impl LowestFirst<2> for u16 {
+    ghost use Rattle.std.specs.Int.{w16, to_le_bytes, from_le_bytes};
+    ghost use Rattle.workerwax.specs.Layout.{label_bytes, labels_in};
+    ghost use Rattle.workerwax.specs.Laws.{no_label_bytes, label_bytes_more, no_labels, labels_more};
+
+    ghost bytes_of = { to_le_bytes w16 };
+
+    ghost laid = { label_bytes };
+
+    ghost number_in = { from_le_bytes w16 };
+
+    ghost held = { labels_in };
+
+    ghost laid_none = { no_label_bytes };
+
+    ghost laid_more = { label_bytes_more };
+
+    ghost held_none = { no_labels };
+
+    ghost held_more = { labels_more };
+
+    fn to_bytes(self) -> [u8; 2] {
+        self.to_le_bytes()
+    }
+
+    fn from_bytes(bytes: &[u8; 2]) -> u16 {
+        u16::from_le_bytes(*bytes)
     }
 }
 
@@ -56,30 +124,4 @@ pub fn halves_of(n: u64) -> [u64; 2]
     ensures { result ≡ halves n }
 {
     [n % 4294967296, n / 4294967296]
-}
-
-// Labels into a slice that has just their bytes.
-pub fn put_labels(out: &mut [u8], labels: &[u16])
-    requires { length out.old ≡ 2 * length labels.now }
-    ensures { out.new ≡ label_bytes labels.now }
-{
-    let mut i = 0;
-    while i < labels.len() {
-        let label = labels[i];
-        out[2 * i] = (label % 256) as u8;
-        out[2 * i + 1] = (label / 256 % 256) as u8;
-        i += 1;
-    }
-}
-
-// Labels out of a slice that has just their bytes.
-pub fn take_labels(bytes: &[u8], labels: &mut [u16])
-    requires { length bytes.now ≡ 2 * length labels.old }
-    ensures { labels.new ≡ labels_in bytes.now }
-{
-    let mut i = 0;
-    while i < labels.len() {
-        labels[i] = bytes[2 * i] as u16 + 256 * bytes[2 * i + 1] as u16;
-        i += 1;
-    }
 }
