@@ -5,28 +5,8 @@ ghost use Rattle.listing.specs.Counts.{g2, g4};
 ghost use Rattle.counts.specs.Counts.{CountsOf};
 ghost use Rattle.counts.specs.Rows.{at, Known};
 
+use crate::ring_count::RingCount;
 use crate::rows::Counts;
-use crate::table::lighter_row;
-
-// How many pairs of rings below M have the sum p, (9-3): M less the distance of p from M − 1, and 0 from 2M − 1 on.
-fn pair_count(m: u64, p: u64) -> u64
-    requires { Known m }
-    ensures { result ≡ g2 m p }
-{
-    m.saturating_sub(p.abs_diff(m - 1))
-}
-
-// Pairs by the formula: none weighs more than 2(m − 1). By `array::from_fn` it is slower.
-fn pair_row(m: u64) -> [u64; 69]
-    requires { Known m }
-    ensures { at result ≡ g2 m }
-{
-    let mut row = [0u64; 69];
-    for p in 0..2 * m as usize - 1 {
-        row[p] = pair_count(m, p as u64);
-    }
-    row
-}
 
 // How many pairs weigh less than n, for n = 0 to 69.
 fn pair_sums(pairs: &[u64; 69]) -> [u64; 70]
@@ -49,42 +29,61 @@ fn lighter_pairs(sums: &[u64; 70], n: usize, k: usize) -> u64
     if n < k { 0 } else { sums[n - k] }
 }
 
-// The count of fours of sum p, out of the one before it: no product, since the counts of pairs rise by one and then fall by one.
-fn next_four(m: u64, sums: &[u64; 70], before: u64, p: usize) -> u64
-    requires known { Known m }
-    requires by_index { (n : ℕ) → n ≤ 69 → at sums.now n ≡ sum (g2 m) n }
-    requires le_p { (1 ≤ p) × (p ≤ 68) × (before ≡ g4 m (p - 1)) }
-    ensures { result ≡ g4 m p }
-{
-    let k = m as usize;
-    let all = sums[p + 1];
-    let fallen = lighter_pairs(sums, p + 1, k);
-    let gone = lighter_pairs(sums, p + 1, 2 * k);
-    before + all + gone - 2 * fallen
-}
-
-// Fours one after the other: none weighs more than 4(m − 1).
-fn four_row(m: u64, pairs: &[u64; 69]) -> [u64; 137]
-    requires known { Known m }
-    requires pairs_value { at pairs.now ≡ g2 m }
-    ensures { at result ≡ g4 m }
-{
-    let sums = pair_sums(pairs);
-    let mut row = [0u64; 137];
-    row[0] = 1;
-    for p in 1..4 * m as usize - 3 {
-        row[p] = next_four(m, &sums, row[p - 1], p);
+impl RingCount {
+    // How many pairs of rings below M have the sum p, (9-3): M less the distance of p from M − 1, and 0 from 2M − 1 on.
+    fn pair_count(self, p: u64) -> u64
+        ensures { result ≡ g2 self.m p }
+    {
+        self.m.saturating_sub(p.abs_diff(self.m - 1))
     }
-    row
+
+    // Pairs by the formula: none weighs more than 2(m − 1). By `array::from_fn` it is slower.
+    fn pair_row(self) -> [u64; 69]
+        ensures { at result ≡ g2 self.m }
+    {
+        let mut row = [0u64; 69];
+        for p in 0..2 * self.m as usize - 1 {
+            row[p] = self.pair_count(p as u64);
+        }
+        row
+    }
+
+    // The count of fours of sum p, out of the one before it: no product, since the counts of pairs rise by one and then fall by one.
+    fn next_four(self, sums: &[u64; 70], before: u64, p: usize) -> u64
+        requires by_index { (n : ℕ) → n ≤ 69 → at sums.now n ≡ sum (g2 self.m) n }
+        requires le_p { (1 ≤ p) × (p ≤ 68) × (before ≡ g4 self.m (p - 1)) }
+        ensures { result ≡ g4 self.m p }
+    {
+        let k = self.m as usize;
+        let all = sums[p + 1];
+        let fallen = lighter_pairs(sums, p + 1, k);
+        let gone = lighter_pairs(sums, p + 1, 2 * k);
+        before + all + gone - 2 * fallen
+    }
+
+    // Fours one after the other: none weighs more than 4(m − 1).
+    fn four_row(self, pairs: &[u64; 69]) -> [u64; 137]
+        requires { at pairs.now ≡ g2 self.m }
+        ensures { at result ≡ g4 self.m }
+    {
+        let sums = pair_sums(pairs);
+        let mut row = [0u64; 137];
+        row[0] = 1;
+        for p in 1..4 * self.m as usize - 3 {
+            row[p] = self.next_four(&sums, row[p - 1], p);
+        }
+        row
+    }
 }
 
 pub fn counts_of(m: u64) -> Counts
     requires { Known m }
     ensures { CountsOf m result }
 {
-    let pairs = pair_row(m);
-    let fours = four_row(m, &pairs);
-    let lighter = lighter_row(m);
+    let rings = RingCount { m };
+    let pairs = rings.pair_row();
+    let fours = rings.four_row(&pairs);
+    let lighter = rings.lighter_row();
     Counts {
         m,
         pairs,

@@ -9,6 +9,7 @@
 
 pub mod counts;
 pub mod places;
+mod ring_count;
 pub mod rows;
 mod table;
 

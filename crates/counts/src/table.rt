@@ -3,7 +3,9 @@
 // it: `lighter_row` says all that is used.
 ghost use Rattle.std.specs.Prelude.{◌≡◌, ℕ, ◌+◌, ◌*◌, ◌-◌, ◌≤◌, ◌<◌};
 ghost use Rattle.listing.specs.Counts.{z8};
-ghost use Rattle.counts.specs.Rows.{at, Known};
+ghost use Rattle.counts.specs.Rows.{at};
+
+use crate::ring_count::RingCount;
 
 // n numbers of a table from `start` on; what stands beyond is not said. The table is lent: a constant that is indexed is laid out
 // in memory anew each time.
@@ -16,13 +18,14 @@ fn part_of(table: &[u64; 1242], start: usize, n: usize) -> [u64; 137]
     row
 }
 
-// z8 of M at 0 to 8(M − 1); what stands beyond is not said.
-pub fn lighter_row(m: u64) -> [u64; 137]
-    requires { Known m }
-    ensures { (p : ℕ) → p ≤ 8 * (m - 1) → at result p ≡ z8 m p }
-{
-    let before = m as usize - 1;
-    part_of(&LIGHTER, 4 * (before * before) - 3 * before, 8 * before + 1)
+impl RingCount {
+    // z8 of M at 0 to 8(M − 1); what stands beyond is not said.
+    pub fn lighter_row(self) -> [u64; 137]
+        ensures { (p : ℕ) → p ≤ 8 * (self.m - 1) → at result p ≡ z8 self.m p }
+    {
+        let before = self.m as usize - 1;
+        part_of(&LIGHTER, 4 * (before * before) - 3 * before, 8 * before + 1)
+    }
 }
 
 const LIGHTER: [u64; 1242] = [

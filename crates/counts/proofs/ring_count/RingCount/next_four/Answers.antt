@@ -1,4 +1,4 @@
--- `counts::counts::next_four` meets its contract: the step of g4. Assumes nothing.
+-- `counts::ring_count::RingCount::next_four` meets its contract: the step of g4. Assumes nothing.
 use mathlib.Core.List.{List}
 use mathlib.Core.Path.{◌≡◌, ◌∙◌}
 use Prim.Native.Nat.{ℕ, suc, ◌+◌, ◌*◌, ◌-◌, ◌≤◌}
@@ -11,7 +11,7 @@ use Rattle.listing.proofs.CountLaws.{g4-within}
 use Rattle.listing.proofs.Steps.{g4-step}
 use Rattle.counts.specs.Rows.{at, Known}
 use Rattle.counts.proofs.FewPairs.{few-pairs}
-use Rattle.counts.proofs.counts.next_four.Goals as goal
+use Rattle.counts.proofs.ring_count.RingCount.next_four.Goals as goal
 
 -- the step to p, and how large its parts are
 record Step (m p before all fallen gone : ℕ) : Type 0 where
@@ -54,32 +54,32 @@ step_to m p before sums fallen gone known summed place is-fallen is-gone =
     }
 
 pub lighter_pairs-fallen-requires-clause-none : goal.lighter_pairs-fallen-requires-clause-none
-lighter_pairs-fallen-requires-clause-none c = c.requires.by_index 0 (omega arith) ∙ sum-zero (g2 c.args.m)
+lighter_pairs-fallen-requires-clause-none c = c.requires.by_index 0 (omega arith) ∙ sum-zero (g2 c.args.self.m)
 
 pub lighter_pairs-gone-requires-clause-none : goal.lighter_pairs-gone-requires-clause-none
-lighter_pairs-gone-requires-clause-none c = c.requires.by_index 0 (omega arith) ∙ sum-zero (g2 c.args.m)
+lighter_pairs-gone-requires-clause-none c = c.requires.by_index 0 (omega arith) ∙ sum-zero (g2 c.args.self.m)
 
 pub overflow_add-result : goal.overflow_add-result
 overflow_add-result c =
     let r = c.requires in
-    omega (arith, (step_to _ _ _ c.args.sums.now _ _ r.known r.by_index r.le_p c.lighter_pairs-fallen.ensures c.lighter_pairs-gone.ensures).small)
+    omega (arith, (step_to _ _ _ c.args.sums.now _ _ c.args.self.known r.by_index r.le_p c.lighter_pairs-fallen.ensures c.lighter_pairs-gone.ensures).small)
 
 pub overflow_add-result-2 : goal.overflow_add-result-2
 overflow_add-result-2 c =
     let r = c.requires in
-    omega (arith, (step_to _ _ _ c.args.sums.now _ _ r.known r.by_index r.le_p c.lighter_pairs-fallen.ensures c.lighter_pairs-gone.ensures).small)
+    omega (arith, (step_to _ _ _ c.args.sums.now _ _ c.args.self.known r.by_index r.le_p c.lighter_pairs-fallen.ensures c.lighter_pairs-gone.ensures).small)
 
 pub overflow_mul-result : goal.overflow_mul-result
 overflow_mul-result c =
     let r = c.requires in
-    omega (arith, (step_to _ _ _ c.args.sums.now _ _ r.known r.by_index r.le_p c.lighter_pairs-fallen.ensures c.lighter_pairs-gone.ensures).few)
+    omega (arith, (step_to _ _ _ c.args.sums.now _ _ c.args.self.known r.by_index r.le_p c.lighter_pairs-fallen.ensures c.lighter_pairs-gone.ensures).few)
 
 pub overflow_sub-result : goal.overflow_sub-result
 overflow_sub-result c =
     let r = c.requires in
-    omega (arith, (step_to _ _ _ c.args.sums.now _ _ r.known r.by_index r.le_p c.lighter_pairs-fallen.ensures c.lighter_pairs-gone.ensures).step)
+    omega (arith, (step_to _ _ _ c.args.sums.now _ _ c.args.self.known r.by_index r.le_p c.lighter_pairs-fallen.ensures c.lighter_pairs-gone.ensures).step)
 
 pub returns : goal.returns
 returns c =
     let r = c.requires in
-    omega (arith, (step_to _ _ _ c.args.sums.now _ _ r.known r.by_index r.le_p c.lighter_pairs-fallen.ensures c.lighter_pairs-gone.ensures).step)
+    omega (arith, (step_to _ _ _ c.args.sums.now _ _ c.args.self.known r.by_index r.le_p c.lighter_pairs-fallen.ensures c.lighter_pairs-gone.ensures).step)

@@ -1,4 +1,4 @@
--- `counts::table::lighter_row` meets its contract: the table is the rows of z8 for M = 1 to 18, one after the other, by one
+-- `counts::ring_count::RingCount::lighter_row` meets its contract: the table is the rows of z8 for M = 1 to 18, one after the other, by one
 -- computation, and the part taken is the row of m. Assumes nothing.
 use mathlib.Core.Path.{◌≡◌, ap, ◌∙◌}
 use Prim.Native.Nat.{ℕ, suc, ◌+◌, ◌*◌, ◌-◌, ◌≤◌}
@@ -9,7 +9,7 @@ use Rattle.listing.specs.Counts.{g2, z8}
 use Rattle.listing.proofs.CountLaws.{squared, z8_list}
 use Rattle.counts.specs.Rows.{Known, at}
 use Rattle.counts.proofs.Lighters.{rows, start, length-rows, stands}
-use Rattle.counts.proofs.table.lighter_row.Goals as goal
+use Rattle.counts.proofs.ring_count.RingCount.lighter_row.Goals as goal
 
 -- where the row of m stands among the 18, and what it says
 record RowOf (m : ℕ) : Type 0 where
@@ -36,4 +36,4 @@ row_of m known = record {
 -- the table is computed here: what `part_of` ensures speaks of its 1,242 numbers, and what the row says of those of `rows 18`
 pub returns : goal.returns
 unfolding rows z8_list squared values times times_plus running g2
-returns c = λ p l. c.part_of.ensures p (omega arith) ∙ (row_of c.args.m c.requires).says p l
+returns c = λ p l. c.part_of.ensures p (omega arith) ∙ (row_of c.args.self.m c.args.self.known).says p l

@@ -1,7 +1,0 @@
--- The loop of `counts::counts::four_row`: the row has g4 below p, and zeros from there on.
-use Rattle.listing.specs.Counts.{g4}
-use Rattle.counts.proofs.Filled.{Filled}
-use Rattle.counts.proofs.counts.four_row.Given as goal
-
-abbrev pub invariant-loop-p : goal.invariant-loop-p
-invariant-loop-p l = Filled (g4 l.m) 137 l.row l.p

@@ -1,8 +1,0 @@
--- `counts::counts::pair_count` meets its contract: it is the formula (9-3). Assumes nothing.
-use native.Mathlib.Omega.{arith}
-use Rattle.listing.specs.Counts.{g2}
-use Rattle.counts.proofs.counts.pair_count.Goals as goal
-
-pub returns : goal.returns
-unfolding g2
-returns c = omega arith
