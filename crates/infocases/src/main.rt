@@ -7,7 +7,6 @@ mod accepted;
 mod check;
 mod reading;
 mod refused;
-mod show;
 mod sweep;
 mod writing;
 

@@ -1,8 +1,9 @@
 // One line for each sequence that is read: its bits, how many are lent, the refusal number, and the fields in the order of V.34's Table 14.
-ghost use Rattle.std.specs.Prelude.{◌≤◌};
+ghost use Rattle.std.specs.Prelude.{◌≤◌, ◌<◌};
 
-use crate::show::{digits, numbers, outcome, text};
-use info::info0::{Info0, Info0Read, read};
+use info::info0::{Info0, read};
+use refusals::code;
+use spelling::show::{Parts, Spaced};
 use spelling::spell::spell;
 use std::io;
 
@@ -36,40 +37,36 @@ fn spelled(sequence: u64) -> [u8; 51] {
     bits
 }
 
-fn read_front(bits: [u8; 51], lent: usize) -> Info0Read
+// The reader is lent the first bytes of 51, and all are shown. After a refusal the fields are zeros.
+fn shown(rt: &impl Print, bits: &[u8; 51], lent: usize) -> io::Result<()>
     requires { lent ≤ 51 }
 {
-    read(&bits[..lent])
-}
-
-// The reader is lent the first bytes of 51, and all are shown.
-fn shown(rt: &impl Print, bits: [u8; 51], lent: usize) -> io::Result<()>
-    requires { lent ≤ 51 }
-{
-    let answer = read_front(bits, lent);
-    text(rt, b"read")?;
-    digits(rt, &bits, &STARTS)?;
-    outcome(rt, lent, answer.refusal)?;
-    let found = answer.fields;
-    numbers(rt, &named(found))?;
-    text(rt, b"\n")
+    let answer = read(&bits[..lent]);
+    let parts = Parts {
+        bytes: bits,
+        starts: &STARTS,
+    };
+    let refusal = code(answer);
+    let fields = answer.map_or([0; 14], named);
+    println!(rt; "read{parts}, lent {lent}: {refusal},{}", Spaced(&fields))
 }
 
 pub fn reads(rt: &impl Print, sequence: u64) -> io::Result<()> {
-    shown(rt, spelled(sequence), 49)
+    shown(rt, &spelled(sequence), 49)
 }
 
-// Another number of bytes than 49, at most 51.
-pub fn reads_lent(rt: &impl Print, sequence: u64, lent: usize) -> io::Result<()> {
-    if lent <= 51 {
-        shown(rt, spelled(sequence), lent)?;
-    }
-    Ok(())
+// Another number of bytes than 49.
+pub fn reads_lent(rt: &impl Print, sequence: u64, lent: usize) -> io::Result<()>
+    requires { lent ≤ 51 }
+{
+    shown(rt, &spelled(sequence), lent)
 }
 
-// A byte in the place of a bit. The remainder is `at` itself, and spares a test.
-pub fn reads_byte(rt: &impl Print, sequence: u64, at: usize, byte: u8) -> io::Result<()> {
+// A byte in the place of a bit.
+pub fn reads_byte(rt: &impl Print, sequence: u64, at: usize, byte: u8) -> io::Result<()>
+    requires { at < 51 }
+{
     let mut bits = spelled(sequence);
-    bits[at % 51] = byte;
-    shown(rt, bits, 49)
+    bits[at] = byte;
+    shown(rt, &bits, 49)
 }

@@ -1,10 +1,9 @@
 // All permitted sets of fields, and all bodies of seventeen bits.
-use crate::show::{say, text};
 use bits::put_digits;
 use fields::check::put_crc;
-use info::info0::{Info0, numbers_of, read, write};
+use info::info0::{Info0, read, write};
+use refusals::code;
 use spelling::check::tested_crc;
-use spelling::same::same;
 use std::io;
 
 // 01110010, which are the digits of 2 + 4 + 8 + 64.
@@ -34,64 +33,38 @@ fn permitted(i: u64) -> Info0 {
 fn comes_back(i: u64) -> bool {
     let mut bits = [9u8; 49];
     let fields = permitted(i);
-    if write(fields, &mut bits) != 0 {
-        return false;
-    }
-    let answer = read(&bits);
-    if answer.refusal != 0 {
-        return false;
-    }
-    let found = answer.fields;
-    same(&numbers_of(found), &numbers_of(fields))
+    write(fields, &mut bits).is_ok() && read(&bits) == Ok(fields)
 }
 
-// How many of the sets are.
-fn came_back() -> u64 {
-    let mut count = 0;
-    for i in 0..73728 {
-        if comes_back(i) {
-            count += 1;
-        }
-    }
-    count
-}
-
-// What the reader says of the sequence whose bits 12 to 28 are the digits of i, with their own check.
-fn refusal_of(i: u64) -> u64 {
+// The sequence whose bits 12 to 28 are the digits of i, with their own check.
+fn sequence_of(i: u64) -> Option<[u8; 49]> {
     let mut bits = [1u8; 49];
     put_digits(SYNC, 8, &mut bits, 4);
     put_digits(i, 17, &mut bits, 12);
-    let check = tested_crc(&bits, 12, 29);
-    put_crc(check, &mut bits, 29);
-    read(&bits).refusal
+    let check = tested_crc(&bits[12..29])?;
+    put_crc(check, &mut bits[29..45]);
+    Some(bits)
 }
 
-// How many of all 131,072 bodies get the number.
-fn answered(number: u64) -> u64 {
-    let mut count = 0;
-    for i in 0..131072 {
-        if refusal_of(i) == number {
-            count += 1;
-        }
-    }
-    count
+// To how many of all 131,072 the reader answers the number.
+fn answered(number: u32) -> usize {
+    (0..131072)
+        .filter_map(sequence_of)
+        .filter(|bits| code(read(bits)) == number)
+        .count()
 }
 
 pub fn sweeps(rt: &impl Print) -> io::Result<()> {
-    say(
-        rt,
-        b"\nsweeps\nof 73728 permitted sets of fields, written and read back as they were: ",
-        came_back(),
+    let back = (0..73728).filter(|i| comes_back(*i)).count();
+    println!(rt;
+        "\nsweeps\nof 73728 permitted sets of fields, written and read back as they were: {back}"
     )?;
-    say(
-        rt,
-        b"\nof 131072 bodies of 17 bits with their own check, read with 0: ",
-        answered(0),
+    println!(rt;
+        "of 131072 bodies of 17 bits with their own check, read with 0: {}",
+        answered(0)
     )?;
-    say(
-        rt,
-        b"\nof 131072 bodies of 17 bits with their own check, refused with 18: ",
-        answered(18),
-    )?;
-    text(rt, b"\n")
+    println!(rt;
+        "of 131072 bodies of 17 bits with their own check, refused with 18: {}",
+        answered(18)
+    )
 }
