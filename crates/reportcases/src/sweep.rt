@@ -1,51 +1,41 @@
 // All filters and rates that four bits hold, and fields there and back.
-use crate::counts::count_of;
-use crate::show::{say, text};
+ghost use Rattle.std.specs.Prelude.{◌+◌, ◌≤◌, ◌<◌};
+
 use crate::writing::MIXED;
 use bits::put_digits;
 use fields::check::put_crc;
-use info::info1c::{fields_of, numbers_of, read, write};
+use info::info1c::{Info1c, read, write};
+use refusals::code;
 use spelling::check::tested_crc;
-use spelling::same::same;
 use std::io;
-use std::num::wrapping_add_u64;
 
 // The mixed fields with a count, written.
 pub fn written(count: i32) -> [u8; 109] {
     let mut bits = [9u8; 109];
-    let fields = fields_of(MIXED);
-    write(fields, count, &mut bits);
+    let _ = write(Info1c::from_numbers(MIXED), count, &mut bits);
     bits
 }
 
-// What the reader says of the mixed fields with i % 16 in four bits of block i / 16, with their own check. In the block of 2400 these bits
-// begin at `from`, which is at most 30.
-fn refusal_of(i: u64, from: usize) -> u64 {
+// The mixed fields with a number in four bits, and their own check.
+fn sequence_of(at: usize, number: u64) -> Option<[u8; 109]>
+    requires { at + 4 ≤ 109 }
+{
     let mut bits = written(-37);
-    put_digits(i % 16, 4, &mut bits, from % 31 + (i / 16 % 6) as usize * 9);
-    let check = tested_crc(&bits, 12, 89);
-    put_crc(check, &mut bits, 89);
-    read(&bits).refusal
+    put_digits(number, 4, &mut bits, at);
+    let check = tested_crc(&bits[12..89])?;
+    put_crc(check, &mut bits[89..105]);
+    Some(bits)
 }
 
-// How many of six times sixteen numbers get the refusal number.
-fn answered(from: usize, refusal: u64) -> u64 {
-    let mut count = 0;
-    for i in 0..96 {
-        count = wrapping_add_u64(count, (refusal_of(i, from) == refusal) as u64);
-    }
-    count
-}
-
-fn answers(rt: &impl Print, words: &[u8], from: usize) -> io::Result<()> {
-    text(rt, words)?;
-    say(
-        rt,
-        b" 0 to 15 in each block, with their check: read with 0 ",
-        answered(from, 0),
-    )?;
-    say(rt, b", refused with 18 ", answered(from, 18))?;
-    text(rt, b"\n")
+// To how many of six times sixteen the reader answers the number: number i is i % 16 in block i / 16. In the block of 2400 its bits begin
+// at `from`. The remainder of 6 is the block itself, and spares a test.
+fn answered(from: usize, number: u32) -> usize
+    requires { from ≤ 30 }
+{
+    (0..96)
+        .filter_map(|i| sequence_of(from + i / 16 % 6 * 9, i as u64 % 16))
+        .filter(|bits| code(read(bits)) == number)
+        .count()
 }
 
 // Number i of 8,192 sets: each power reduction, further reduction and MD once, and every carrier, filter and rate in every block.
@@ -80,34 +70,26 @@ fn permitted(i: u64) -> [u64; 22] {
     ]
 }
 
-// Are the fields and the count written, and read back as they were?
-fn comes_back(numbers: [u64; 22], count: i32) -> bool {
+// Is set i written with a count, and are both read back as they were? The set before it has another count.
+fn comes_back(i: u64) -> bool {
     let mut bits = [9u8; 109];
-    let fields = fields_of(numbers);
-    let refusal = write(fields, count, &mut bits);
-    let answer = read(&bits);
-    let found = answer.fields;
-    let alike = same(&numbers_of(found, 0), &numbers_of(fields, 0));
-    alike & (refusal == 0) & (answer.refusal == 0) & (answer.count == count)
-}
-
-// How many of the sets are, each with another count than the one before.
-fn came_back() -> u64 {
-    let mut count = 0;
-    for i in 0..8192 {
-        count = wrapping_add_u64(count, comes_back(permitted(i), count_of(i)) as u64);
-    }
-    count
+    let fields = Info1c::from_numbers(permitted(i));
+    let count = (i % 1024) as i32 - 512;
+    write(fields, count, &mut bits).is_ok()
+        && read(&bits).is_ok_and(|report| report.fields == fields && report.count == count)
 }
 
 // The filter at 2400 begins at bit 26, the rate at bit 30.
 pub fn sweeps(rt: &impl Print) -> io::Result<()> {
-    answers(rt, b"filters", 26)?;
-    answers(rt, b"rates", 30)?;
-    say(
-        rt,
-        b"of 8192 power reductions, further reductions and MDs, read back as written: ",
-        came_back(),
-    )?;
-    text(rt, b"\n")
+    for (words, from) in [("filters", 26), ("rates", 30)] {
+        let read = answered(from, 0);
+        let refused = answered(from, 18);
+        println!(rt;
+            "{words} 0 to 15 in each block, with their check: read with 0 {read}, refused with 18 {refused}"
+        )?;
+    }
+    let back = (0..8192).filter(|i| comes_back(*i)).count();
+    println!(rt;
+        "of 8192 power reductions, further reductions and MDs, read back as written: {back}"
+    )
 }

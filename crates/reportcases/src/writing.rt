@@ -1,9 +1,10 @@
 // One line for each set of fields that is to be written: the fields, the count of the offset, how many bytes are lent, the refusal number,
 // and the bytes after it.
-ghost use Rattle.std.specs.Prelude.{◌≤◌, length};
+ghost use Rattle.std.specs.Prelude.{◌≤◌, ◌<◌};
 
-use crate::show::{count, named, outcome, sequence, text};
-use info::info1c::{Info1c, fields_of, write};
+use crate::show::{Named, sequence};
+use info::info1c::{Info1c, write};
+use refusals::code;
 use std::io;
 
 // The fields of the mixed sequence.
@@ -32,34 +33,21 @@ pub const MIXED: [u64; 22] = [
     0, // the count's, which is handed over apart
 ];
 
-// Apart from what follows, since it asks that the part is as long as said.
-fn write_into(fields: Info1c, count: i32, space: &mut [u8], lent: usize) -> u64
-    requires { lent ≤ length space.old }
+// The mixed fields with a number in the place of field k. The writer is lent the first bytes of 111 that hold 9, and all are shown after the
+// call: a refusal leaves them as they were, and a success writes exactly 109.
+fn writes(rt: &impl Print, k: usize, number: u64, count: i32, lent: usize) -> io::Result<()>
+    requires { (k < 22) × (lent ≤ 111) }
 {
-    write(fields, count, &mut space[..lent])
-}
-
-// The writer is lent the first bytes of 111 that hold 9, and all are shown after the call: a refusal leaves them as they were, and a
-// success writes exactly 109.
-fn shown(rt: &impl Print, fields: Info1c, offset: i32, lent: usize) -> io::Result<()>
-    requires { lent ≤ 111 }
-{
-    let mut space = [9u8; 111];
-    let refusal = write_into(fields, offset, &mut space, lent);
-    outcome(rt, lent, refusal)?;
-    sequence(rt, &space)?;
-    text(rt, b"\n")
-}
-
-// The mixed fields with a number in the place of field k. The remainders are k and the number of bytes themselves, and spare a test.
-fn writes(rt: &impl Print, k: usize, number: u64, offset: i32, lent: usize) -> io::Result<()> {
     let mut numbers = MIXED;
-    numbers[k % 21] = number;
-    let fields = fields_of(numbers);
-    text(rt, b"write")?;
-    named(rt, fields)?;
-    count(rt, offset)?;
-    shown(rt, fields, offset, lent % 112)
+    numbers[k] = number;
+    let fields = Info1c::from_numbers(numbers);
+    let mut space = [9u8; 111];
+    let refusal = code(write(fields, count, &mut space[..lent]));
+    println!(rt;
+        "write{}, count {count}, lent {lent}: {refusal},{}",
+        Named(fields),
+        sequence(&space)
+    )
 }
 
 // One above the range of field k. From field 3 on they are carrier, filter and rate, six times.
@@ -86,19 +74,18 @@ fn all_above(rt: &impl Print) -> io::Result<()> {
 
 // Field 4 is the filter at 2400, 3 in the mixed fields and 10 at most. In the last line of 8 it is out of its range too.
 pub fn cases(rt: &impl Print) -> io::Result<()> {
-    text(rt, b"\nINFO1c written\n")?;
-    writes(rt, 4, 3, -37, 109)?;
-    writes(rt, 4, 3, -512, 109)?;
-    writes(rt, 4, 3, 511, 109)?;
-    text(rt, b"\n8: not 109 bytes\n")?;
+    println!(rt; "\nINFO1c written")?;
+    for count in [-37, -512, 511] {
+        writes(rt, 4, 3, count, 109)?;
+    }
+    println!(rt; "\n8: not 109 bytes")?;
     writes(rt, 4, 3, -37, 0)?;
     writes(rt, 4, 3, -37, 108)?;
     writes(rt, 4, 3, -37, 110)?;
     writes(rt, 4, 11, -37, 108)?;
-    text(rt, b"\n18: a field out of its range\n")?;
-    writes(rt, 4, 3, -513, 109)?;
-    writes(rt, 4, 3, 512, 109)?;
-    writes(rt, 4, 3, -2147483648, 109)?;
-    writes(rt, 4, 3, 2147483647, 109)?;
+    println!(rt; "\n18: a field out of its range")?;
+    for count in [-513, 512, i32::MIN, i32::MAX] {
+        writes(rt, 4, 3, count, 109)?;
+    }
     all_above(rt)
 }
