@@ -5,51 +5,37 @@ use crate::round::round_from;
 use std::io;
 use trials::setting_of;
 
-pub fn say(rt: &impl Print, words: &[u8], n: u64) -> io::Result<()> {
-    rt.write_all(words)?;
-    print!(rt; "{n}")
-}
-
-pub fn text(rt: &impl Print, words: &[u8]) -> io::Result<()> {
-    rt.write_all(words)
-}
-
-fn one_if(agrees: bool) -> u64
-    ensures { result ≤ 1 }
-{
-    if agrees { 1 } else { 0 }
-}
-
-// Three data frames in a row, each from the state that the one before left: how many agree.
-fn chain(i: u64) -> u64
+// Three data frames in a row, each from the state that the one before left: how many agree before one that does not.
+fn chain(i: u64) -> u32
     ensures { result ≤ 3 }
 {
-    let x = setting_of(i);
-    if x.bits == 0 {
+    let Some(setting) = setting_of(i) else {
         return 0;
+    };
+    let mut state = setting.state;
+    let mut agreed = 0;
+    for seed in [i, i % 1024 + 1024, i % 1024 + 2048] {
+        let Some(next) = round_from(&setting, state, seed) else {
+            return agreed;
+        };
+        state = next;
+        agreed += 1;
     }
-    let begun = x.state;
-    let first = round_from(begun, x.bits, x.labels, i);
-    let second = first.state;
-    let middle = round_from(second, x.bits, x.labels, i % 1024 + 1024);
-    let third = middle.state;
-    let last = round_from(third, x.bits, x.labels, i % 1024 + 2048);
-    one_if(first.agrees) + one_if(middle.agrees) + one_if(last.agrees)
+    agreed
 }
 
-fn agreeing() -> u64 {
-    let mut count: u64 = 0;
+// Of all settings: a `for`, since the check finds no proof that the `sum` of a chain fits, which knows no bound of 3 on each.
+fn agreeing() -> u32 {
+    let mut agreed = 0;
     for i in 0..336 {
-        count += chain(i);
+        agreed += chain(i);
     }
-    count
+    agreed
 }
 
 pub fn rounds(rt: &impl Print) -> io::Result<()> {
-    say(
-        rt,
-        b"data frames written and read back, three in a row, that agree: ",
-        agreeing(),
-    )?;
-    text(rt, b"\n")
+    println!(rt;
+        "data frames written and read back, three in a row, that agree: {}",
+        agreeing()
+    )
 }
