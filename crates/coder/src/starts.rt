@@ -19,6 +19,7 @@ pub fn start(asked: Asked, register: u64, z: u64) -> Result<State, Refusal>
 }
 
 // The short start: shaping 0, register 0 and Z 0.
+#[tactic(auto, unfolding(crate::specs::State::short_started_of))]
 pub fn short_start(role: u64, s: u64, n: u64, mark: u64) -> Result<State, Refusal>
     ensures { started result ≡ short_started_of role s n mark }
 {
