@@ -31,8 +31,8 @@ pub fn four_at(counts: &Counts, t: usize, i: u64) -> FourRings
     let found = locate(&counts.pairs, t, i);
     let c = found.at;
     let first_pairs = counts.pairs[c];
-    let first = pair_at(counts, c as u64, found.rest % first_pairs);
-    let second = pair_at(counts, (t - c) as u64, found.rest / first_pairs);
+    let first = pair_at(counts.m, c as u64, found.rest % first_pairs);
+    let second = pair_at(counts.m, (t - c) as u64, found.rest / first_pairs);
     FourRings { first, second }
 }
 
@@ -42,7 +42,7 @@ pub fn place_of_four(counts: &Counts, four: FourRings) -> u64
     ensures { result ≡ place_of_four counts.now.m (four_of four) }
 {
     let c = four.first.weight();
-    let first = place_of_pair(counts, four.first);
-    let second = place_of_pair(counts, four.second);
+    let first = place_of_pair(counts.m, four.first);
+    let second = place_of_pair(counts.m, four.second);
     lighter_sum(&counts.pairs, four.weight(), c) + (second * counts.pairs[c] + first)
 }

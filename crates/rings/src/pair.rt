@@ -4,8 +4,7 @@ ghost use Rattle.listing.specs.Counts.{g2};
 ghost use Rattle.listing.specs.Number.{pair_at, place_of_pair};
 ghost use Rattle.listing.specs.Sets.{Below2, weight2};
 ghost use Rattle.rings.specs.Parts.{pair_of};
-
-use counts::Counts;
+ghost use Rattle.counts.specs.Rows.{Known};
 
 #[derive(Clone, Copy)]
 pub struct PairOfRings {
@@ -23,11 +22,11 @@ impl PairOfRings {
 }
 
 // The pair of sum t at place e.
-pub fn pair_at(counts: &Counts, t: u64, e: u64) -> PairOfRings
-    requires { e < g2 counts.now.m t }
-    ensures { pair_of result ≡ pair_at counts.now.m t e }
+pub fn pair_at(m: u64, t: u64, e: u64) -> PairOfRings
+    requires known { Known m }
+    requires e_bound { e < g2 m t }
+    ensures { pair_of result ≡ pair_at m t e }
 {
-    let m = counts.m;
     if t < m {
         return PairOfRings {
             first: e as u8,
@@ -42,11 +41,11 @@ pub fn pair_at(counts: &Counts, t: u64, e: u64) -> PairOfRings
 }
 
 // The place of a pair among those of its sum.
-pub fn place_of_pair(counts: &Counts, pair: PairOfRings) -> u64
-    requires { Below2 counts.now.m (pair_of pair) }
-    ensures { result ≡ place_of_pair counts.now.m (pair_of pair) }
+pub fn place_of_pair(m: u64, pair: PairOfRings) -> u64
+    requires known { Known m }
+    requires below2 { Below2 m (pair_of pair) }
+    ensures { result ≡ place_of_pair m (pair_of pair) }
 {
-    let m = counts.m;
     let first = u64::from(pair.first);
     let second = u64::from(pair.second);
     if first + second < m {

@@ -37,8 +37,8 @@ bounds-counts-c c =
 pub nonzero_rem-found : goal.nonzero_rem-found
 nonzero_rem-found c = (known c.args.counts.now _ _ _ c.locate-found.ensures c.requires).0.some
 
-pub pair_at-first-requires : goal.pair_at-first-requires
-pair_at-first-requires c = (known c.args.counts.now _ _ _ c.locate-found.ensures c.requires).0.first
+pub pair_at-first-requires-clause-e_bound : goal.pair_at-first-requires-clause-e_bound
+pair_at-first-requires-clause-e_bound c = (known c.args.counts.now _ _ _ c.locate-found.ensures c.requires).0.first
 
 pub overflow_sub-t : goal.overflow_sub-t
 overflow_sub-t c = (known c.args.counts.now _ _ _ c.locate-found.ensures c.requires).0.within
@@ -46,8 +46,8 @@ overflow_sub-t c = (known c.args.counts.now _ _ _ c.locate-found.ensures c.requi
 pub nonzero_div-found : goal.nonzero_div-found
 nonzero_div-found c = (known c.args.counts.now _ _ _ c.locate-found.ensures c.requires).0.some
 
-pub pair_at-second-requires : goal.pair_at-second-requires
-pair_at-second-requires c = (known c.args.counts.now _ _ _ c.locate-found.ensures c.requires).0.second
+pub pair_at-second-requires-clause-e_bound : goal.pair_at-second-requires-clause-e_bound
+pair_at-second-requires-clause-e_bound c = (known c.args.counts.now _ _ _ c.locate-found.ensures c.requires).0.second
 
 pub returns : goal.returns
 returns c =
