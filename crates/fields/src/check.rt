@@ -32,7 +32,8 @@ pub fn crc_of(bits: &[u8]) -> u64
     register
 }
 
-// The check of what stands in the free places of a sequence.
+// The check of what stands in the free places of a sequence. Over a list of the places that are free this is the loop above, but to make
+// the list takes a buffer and another loop.
 pub fn crc_inside(picture: &[u8], bits: &[u8]) -> u64
     requires { (length bits.now ≡ length picture.now) × Bits bits.now }
     ensures { result ≡ high_value (crc (inside picture.now bits.now)) }

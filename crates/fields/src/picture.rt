@@ -23,7 +23,8 @@ pub fn all_hold(picture: &[u8], bits: &[u8]) -> bool
         .all(|(place, bit)| holds(*place, *bit))
 }
 
-// The sequence around a body.
+// The sequence around a body. The body is taken by a count of the free places so far: of a slice that is written through an iterator a proof
+// knows the length alone.
 pub fn put_around(picture: &[u8], body: &[u8], bits: &mut [u8])
     requires { (length bits.old ≡ length picture.now) × (length body.now ≡ free picture.now) }
     ensures { bits.new ≡ around picture.now body.now }

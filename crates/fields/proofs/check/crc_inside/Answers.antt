@@ -11,10 +11,6 @@ loop-place-init c =
     let bits : c.into_iter-place-iterator.result.b.rest.now ≡ c.args.bits.now = cc in
     rw (picture, bits) (fed_none _ (bits_inside c.args.picture.now c.args.bits.now c.requires.1))
 
-pub stepped-register-requires : goal.stepped-register-requires
-stepped-register-requires c =
-    let f = fed-free _ _ _ _ c.loop-place.invariant _ _ _ _ c.in-Some.ensures.steps c.if-place-eq-FREE.true in (f.small, f.binary.0)
-
 pub loop-place-preserved-then-place-eq-FREE : goal.loop-place-preserved-then-place-eq-FREE
 loop-place-preserved-then-place-eq-FREE c =
     fed-more _ _ _ _ _ (fed-free _ _ _ _ c.loop-place.invariant _ _ _ _ c.in-Some.ensures.steps c.if-place-eq-FREE.true) c.stepped-register.ensures

@@ -8,10 +8,6 @@ use Rattle.fields.proofs.check.crc_of.Goals as goal
 pub loop-bit-init : goal.loop-bit-init
 loop-bit-init c = fed_none c.args.bits.now c.requires
 
-pub stepped-register-requires : goal.stepped-register-requires
-stepped-register-requires c =
-    let f = rw (at_place c.args.bits.now c.loop-bit.bit-index (omega arith)) at c.loop-bit.invariant in (f.small, f.binary.0)
-
 pub loop-bit-preserved : goal.loop-bit-preserved
 loop-bit-preserved c =
     let f = rw (at_place c.args.bits.now c.loop-bit.bit-index (omega arith)) at c.loop-bit.invariant in

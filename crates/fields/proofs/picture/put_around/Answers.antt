@@ -3,9 +3,6 @@ use Rattle.fields.proofs.Places.{framed_none, framed-room, framed-free, framed_f
 use Rattle.fields.proofs.picture.put_around.Goals as goal
 use Rattle.fields.proofs.picture.put_around.Goals.{then-place-eq-FREE, else-place-eq-FREE}
 
-pub loop-i-init : goal.loop-i-init
-loop-i-init c = let a = c.args in framed_none a.picture.now a.body.now a.bits.now c.requires.0 c.requires.1
-
 pub bounds-body-k : goal.bounds-body-k
 bounds-body-k c = framed-room _ _ _ _ _ _ c.loop-i.invariant c.loop-i-test.true c.if-place-eq-FREE.true
 
