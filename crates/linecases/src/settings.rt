@@ -20,7 +20,7 @@ fn settings(rt: &impl Print, s: u64, n: u64, shaping: u64, mark: u64) -> io::Res
     }
 }
 
-// The switching of a data frame, a word for each mapping frame.
+// The switching of a data frame, a word for each mapping frame. What `next_frame` asks is tested: it holds of accepted settings.
 fn switching(rt: &impl Print, settings: Settings) -> io::Result<()> {
     let Settings { frames, step, .. } = settings;
     let mut counter = 0;
