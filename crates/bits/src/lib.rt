@@ -23,7 +23,7 @@ pub fn all_bits(bits: &[u8]) -> bool
     good
 }
 
-// The number that n bits are, from `at` on.
+// The number that n bits are, from `at` on: a place and a count, and no slice, since the contracts above and the rows of a table have both.
 pub fn value_at(bits: &[u8], at: usize, n: usize) -> u64
     requires { (at + n ≤ length bits.now) × (n ≤ 31) × Bits bits.now }
     ensures { result ≡ value (take n (drop at bits.now)) }

@@ -14,7 +14,7 @@ pub fn reading_of(count: i32) -> Option<f64>
     Some(f64::from(count) / 50.0)
 }
 
-// 1 for hertz, 0 for none.
+// 1 for hertz, 0 for none: a number, since that is what the answer to C holds.
 pub fn is_reading(reading: Option<f64>) -> u64
     ensures { result ≡ is_reading reading }
 {

@@ -14,7 +14,8 @@ pub fn signed(bits: u64, half: u64) -> i32
     }
 }
 
-// The bits of a number. Where they can't hold it, a number that they can't hold either.
+// The bits of a number. Where they can't hold it, a number that they can't hold either. That is no `None`: it goes to the range test of the
+// sequence's table like any field's number, and is refused there in its turn.
 pub fn unsigned(count: i32, half: u64) -> u64
     requires { half ≤ 2147483648 }
     ensures { result ≡ unsigned half count }

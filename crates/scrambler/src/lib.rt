@@ -10,7 +10,8 @@ ghost use Rattle.scrambler.specs.Parts.{Scrambled, Descrambled, Passed};
 ghost use Rattle.scrambler.specs.Requires.{Part};
 ghost use Rattle.scrambler.specs.Scrambler.{scrambled_bit, push};
 
-// The scrambled bit for a bit, or the bit for a scrambled bit: the two are one sum.
+// The scrambled bit for a bit, or the bit for a scrambled bit: the two are one sum. The role stays a number, 0 at the calling end, since
+// `scrambled_bit` and the calls for C have it so.
 #[tactic(auto, unfolding(crate::specs::Scrambler::scrambled_bit, crate::specs::Scrambler::place_back, crate::specs::Scrambler::near_place))]
 pub fn through(role: u64, register: u64, bit: u64) -> u64
     requires { bit ≤ 1 }
