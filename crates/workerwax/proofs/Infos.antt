@@ -1,7 +1,7 @@
 -- The calls of any sequence of bits that carries fields, and the reader and the writer below them. A call tests the bytes of the fields
 -- itself and leaves the other tests to these, so that its number is theirs, or 8: said by its ways out, and by which calls get 0.
 -- Assumes nothing.
-use mathlib.Core.Bool.{Bool, not, ◌&&◌}
+use mathlib.Core.Bool.{Bool, not, ◌&&◌, and-true, and-false}
 use mathlib.Core.List.{List}
 use mathlib.Core.Logic.{◌↔◌}
 use mathlib.Core.Path.{◌≡◌, sym, ap, ◌∙◌}
@@ -20,7 +20,7 @@ use Rattle.sequences.proofs.Sequences.{tests-read, tests-written}
 use Rattle.sequences.proofs.Trips.{fields-accepted}
 use Rattle.workerwax.specs.Info.{sequence_read_number, SequenceReadCall, sequence_write_number, SequenceWriteCall}
 use Rattle.workerwax.specs.Layout.{numbers_in}
-use Rattle.workerwax.proofs.Ways.{as_it_was, filled_up, and_last, and_none}
+use Rattle.workerwax.proofs.Ways.{as_it_was, filled_up}
 
 -- A call that reads.
 module _ (s : Sequence) (bytes : ℕ) where
@@ -29,12 +29,12 @@ module _ (s : Sequence) (bytes : ℕ) where
     unfolding fields_tests
     read-other wrong =
         let test = is_long s (length bits) in
-        given _ 8 _ (ap not (ap (λ (v : Bool). test && v) (ne_eqb lent bytes wrong) ∙ and_none test))
+        given _ 8 _ (ap not (ap (λ (v : Bool). test && v) (ne_eqb lent bytes wrong) ∙ and-false test))
 
     read_same : lent ≡ bytes → sequence_read_number s bytes bits lent ≡ fields_refusal s bits
     read_same e =
         let test = is_long s (length bits) in
-        ap (λ (v : Bool). refusal (fields_tests s bits v)) (ap (λ (v : Bool). test && v) (eq-eqb lent bytes e) ∙ and_last test)
+        ap (λ (v : Bool). refusal (fields_tests s bits v)) (ap (λ (v : Bool). test && v) (eq-eqb lent bytes e) ∙ and-true test)
 
   module _ (shown : List ℕ → List ℕ) (bits lent : List ℕ) where
     -- its ways out
@@ -43,12 +43,6 @@ module _ (s : Sequence) (bytes : ℕ) where
         let n = sequence_read_number s bytes bits (length lent) in
         let eight = read-other bits (length lent) wrong in
         record { number = sym eight; answer = as_it_was n _ lent (λ z. omega (arith, eight, z)) }
-
-    pub read-refused :
-        (r : ℕ) → length lent ≡ bytes → r ≡ fields_refusal s bits → (r ≡ 0 → ⊥) → SequenceReadCall s bytes shown bits lent r lent
-    read-refused r exact e some =
-        let is = e ∙ sym (read_same bits (length lent) exact) in
-        record { number = is; answer = as_it_was _ _ lent (λ z. some (is ∙ z)) }
 
     pub read_done :
         (numbers after : List ℕ) (r : ℕ) → length lent ≡ bytes → FieldsAnswer s bits r numbers → r ≡ 0 → after ≡ shown numbers

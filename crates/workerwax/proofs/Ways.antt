@@ -1,5 +1,5 @@
 -- The answer of ww_rank by its ways out: refused by the ranker, or done. Assumes nothing.
-use mathlib.Core.Bool.{Bool, true, false, not, ◌&&◌}
+use mathlib.Core.Bool.{Bool, true, false, not, ◌&&◌, and-true, and-false}
 use mathlib.Core.List.{List, [], ◌∷◌}
 use mathlib.Core.Path.{◌≡◌, refl, sym, ap, ◌∙◌}
 use Prim.Native.Nat.{ℕ}
@@ -35,15 +35,6 @@ filled_up n given before e = rw e
 pub own-given : (n : ℕ) (rest : List (Bool × ℕ)) → (n ≡ 0 → ⊥) → refusal (own n ∷ rest) ≡ n
 own-given n rest some = given-first (not (eqb n 0)) n rest (ap not (ne_eqb n 0 some))
 
--- a test and one that passes, and a test and one that fails
-pub and_last : (b : Bool) → (b && true) ≡ b
-and_last true = refl
-and_last false = refl
-
-pub and_none : (b : Bool) → (b && false) ≡ false
-and_none true = refl
-and_none false = refl
-
 -- ww_rank: `shown` is what the ranker is shown, and its number is the call's.
 module _ (K M : ℕ) (rings answer : List ℕ) where
   abbrev pub shown : List ℕ
@@ -56,11 +47,11 @@ module _ (K M : ℕ) (rings answer : List ℕ) where
 
   pub rank_same : length answer ≡ rank_bytes → rank_number K M rings (length answer) ≡ rank_refusal (eqb (length rings) 8) K M rings
   unfolding rank_number
-  rank_same e = rw (e, and_last (eqb (length rings) 8))
+  rank_same e = rw (e, and-true (eqb (length rings) 8))
 
   rank-other : (length answer ≡ rank_bytes → ⊥) → rank_refusal (eqb (length shown) 8) K M shown ≡ rank_number K M rings (length answer)
   unfolding rank_number rank_refusal shown_rings refusal
-  rank-other wrong = let other = ne_eqb (length answer) rank_bytes wrong in rw (other, and_none (eqb (length rings) 8))
+  rank-other wrong = let other = ne_eqb (length answer) rank_bytes wrong in rw (other, and-false (eqb (length rings) 8))
 
   pub rank_is : (ranked_of K M shown).refusal ≡ rank_number K M rings (length answer)
   unfolding ranked_of

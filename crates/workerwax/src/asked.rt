@@ -1,4 +1,5 @@
-// What a call asks for: its numbers come from C one by one, and are put together here, once.
+// What a call asks for: its numbers come from C one by one, and are put together here, once. As a literal it would stand at four calls, a
+// line for each number, and be no plainer there.
 ghost use Rattle.std.specs.Prelude.{◌≡◌};
 ghost use Rattle.line.specs.Asked.{asked};
 

@@ -56,6 +56,7 @@ pub fn ww_write(
     code(answer_write(st, bits, labels, answer))
 }
 
+// Its outcome by name. No data frame has more labels than there is room for.
 fn answer_write(st: State, bits: &[u8], labels: &mut [u8], answer: &mut [u8]) -> Result<(), Refusal>
     ensures { WriteCall st bits.now labels.old answer.old (code result) labels.new answer.new }
 {
@@ -88,6 +89,7 @@ pub fn ww_read(
     code(answer_read(st, labels, bits, answer))
 }
 
+// Its outcome by name.
 fn answer_read(st: State, labels: &[u8], bits: &mut [u8], answer: &mut [u8]) -> Result<(), Refusal>
     ensures { ReadCall st labels.now bits.old answer.old (code result) bits.new answer.new }
 {

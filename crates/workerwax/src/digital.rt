@@ -31,6 +31,7 @@ pub fn ww_jp_read(bits: &[u8], answer: &mut [u8]) -> u32
     code(answer_jp(bits, answer))
 }
 
+// Its outcome by name.
 fn answer_jp(bits: &[u8], answer: &mut [u8]) -> Result<(), Refusal>
     ensures { JpReadCall bits.now answer.old (code result) answer.new }
 {

@@ -1,4 +1,7 @@
 // The INFO sequences, by which each end says what it can (V.34, clause 10.1.2.3): bits to fields, and back.
+//
+// Each call has its own test of a length, entry and layout. A function for all sequences would be handed the last two as closures, and be
+// longer than these three steps.
 ghost use Rattle.std.specs.Prelude.{◌≡◌};
 ghost use Rattle.refusals.specs.Numbers.{code};
 ghost use Rattle.offset.specs.Requires.{NoNan};
@@ -18,6 +21,7 @@ pub fn ww_info0_read(bits: &[u8], fields: &mut [u8]) -> u32
     code(answer_info0(bits, fields))
 }
 
+// Its outcome by name.
 fn answer_info0(bits: &[u8], fields: &mut [u8]) -> Result<(), Refusal>
     ensures { Info0ReadCall bits.now fields.old (code result) fields.new }
 {
@@ -36,6 +40,7 @@ pub fn ww_info0_write(fields: &[u8], bits: &mut [u8]) -> u32
     code(send_info0(fields, bits))
 }
 
+// Its outcome by name.
 fn send_info0(fields: &[u8], bits: &mut [u8]) -> Result<(), Refusal>
     ensures { Info0WriteCall fields.now bits.old (code result) bits.new }
 {
@@ -63,6 +68,7 @@ pub fn ww_info1c_read(bits: &[u8], report: &mut [u8]) -> u32
     code(answer_info1c(bits, report))
 }
 
+// Its outcome by name.
 fn answer_info1c(bits: &[u8], report: &mut [u8]) -> Result<(), Refusal>
     ensures { Info1cReadCall bits.now report.old (code result) report.new }
 {
@@ -84,6 +90,7 @@ pub fn ww_info1c_write(fields: &[u8], bits: &mut [u8]) -> u32
     code(send_info1c(fields, bits))
 }
 
+// Its outcome by name.
 fn send_info1c(fields: &[u8], bits: &mut [u8]) -> Result<(), Refusal>
     ensures { Info1cWriteCall fields.now bits.old (code result) bits.new }
 {

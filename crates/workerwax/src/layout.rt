@@ -29,7 +29,8 @@ pub trait LowestFirst<const WIDTH: usize>: Copy {
     ghost held_more: { (front rest : List ℕ) → length front ≡ WIDTH → held (front ++ rest) ≡ number_in front ∷ held rest };
 }
 
-// Numbers into a slice that has just their bytes.
+// Numbers into a slice that has just their bytes. They go in by place: of a slice that is lent in parts, as `chunks_exact_mut` and
+// `split_first_chunk_mut` do in a loop, a proof knows no element afterwards.
 pub fn put_numbers<const WIDTH: usize, N: LowestFirst<WIDTH>>(out: &mut [u8], numbers: &[N])
     requires { length out.old ≡ WIDTH * length numbers.now }
     ensures { out.new ≡ N.laid numbers.now }
@@ -119,7 +120,8 @@ impl LowestFirst<2> for u16 {
     }
 }
 
-// A number of 64 bits as two of 32, the lower half first.
+// A number of 64 bits as two of 32, the lower half first. An answer is numbers of four bytes from end to end (docs/INTERFACE.md), so that the
+// eight bytes of `to_le_bytes` would have to be put behind them by themselves.
 pub fn halves_of(n: u64) -> [u64; 2]
     ensures { result ≡ halves n }
 {

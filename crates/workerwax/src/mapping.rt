@@ -32,6 +32,7 @@ pub fn ww_rank(k: u64, m: u64, rings: &[u8], answer: &mut [u8]) -> u32
     code(answer_rank(k, m, rings, answer))
 }
 
+// Its outcome by name.
 fn answer_rank(k: u64, m: u64, rings: &[u8], answer: &mut [u8]) -> Result<(), Refusal>
     ensures { RankCall k m rings.now answer.old (code result) answer.new }
 {

@@ -43,7 +43,7 @@ pub fn numbers_of(st: State) -> [u64; 7]
     ]
 }
 
-// The state of a start into its answer.
+// The state of a start into its answer, and the outcome by name.
 #[tactic(auto, using(std::proofs::lemmas::Bool::Decides::nat_tests, refusals::proofs::Once::numbered), unfolding(laws::specs::Choice::refusal))]
 fn answer_start(begun: Result<State, Refusal>, answer: &mut [u8]) -> Result<(), Refusal>
     ensures { StartCall (started begun) answer.old (code result) answer.new }
