@@ -1,7 +1,7 @@
 -- A data frame's labels, mapping frame by mapping frame, as the reader's passes meet them: the sixteen labels of a frame are lent in
 -- part, their ranges follow from those of all, and what is left to test after a frame is the test of the others. Assumes nothing.
 use mathlib.Core.Bool.{Bool, true, not, ◌&&◌}
-use mathlib.Core.List.{List, ◌++◌}
+use mathlib.Core.List.{List, [], ◌∷◌, ◌++◌}
 use mathlib.Core.Logic.{◌⊎◌, inl, inr}
 use mathlib.Core.Path.{◌≡◌, refl, sym, ap, subst, ◌∙◌}
 use Prim.Native.Nat.{ℕ, zero, suc, ◌+◌, ◌*◌, ◌-◌, ◌≤◌, ◌<◌}
@@ -13,6 +13,8 @@ use lib.Seq.{drop-drop, length-take-le, take_at, drop_at}
 use denote.Ref.{Bor}
 use Rattle.std.specs.declared.slice.ChunksExact.{ChunksExact}
 use Rattle.std.specs.Prelude.{Some, None}
+use Rattle.std.specs.Iterator.{AlwaysYields}
+use Rattle.std.specs.List.{list_all}
 use Rattle.std.specs.Slice.Iter.{chunks_exact_rest, chunks_exact_size, chunks_exact_steps}
 use Rattle.laws.proofs.Bools.{and_parts}
 use Rattle.line.specs.declared.settings.Settings.{Settings}
@@ -89,16 +91,6 @@ module _ (labels : List ℕ) where
     ranges-next M q k more =
         rw (one_off k more) (frame-ranges M q (P - (k + 1)) (drop (16 * k) labels) (rest-length k more) ∙ rw (sixteen_on k))
 
-    -- one turn of the pass: the answer about a frame, and what is left to test
-    pub range-turn :
-        (M q k : ℕ) (sixteen : List ℕ) (r : Bool) → k < P → sixteen ≡ sixteen_at k → r ≡ in_range M q 4 sixteen
-        → in_range M q (4 * (P - k)) (drop (16 * k) labels) ≡ (r && in_range M q (4 * (P - (k + 1))) (drop (16 * (k + 1)) labels))
-    range-turn M q k sixteen r more same answer = ranges-next M q k more ∙ rw (answer, same)
-
-    pub ranges_none : (M q k : ℕ) → P ≤ k → in_range M q (4 * (P - k)) (drop (16 * k) labels) ≡ true
-    unfolding in_range
-    ranges_none M q k all = let e : 4 * (P - k) ≡ 0 = omega arith in rw e
-
     range-from :
         (M q : ℕ) → in_range M q (4 * P) labels ≡ true → (k : ℕ) → k ≤ P → in_range M q (4 * (P - k)) (drop (16 * k) labels) ≡ true
     range-from M q all zero h = rw sub-zero all
@@ -109,6 +101,40 @@ module _ (labels : List ℕ) where
     frame-range : (M q : ℕ) → in_range M q (4 * P) labels ≡ true → (k : ℕ) → k < P → in_range M q 4 (sixteen_at k) ≡ true
     frame-range M q all k more =
         (and_parts (in_range M q 4 (sixteen_at k)) _ (sym (ranges-next M q k more) ∙ range-from M q all k (omega arith))).0
+
+-- The labels cut into sixteens, as `chunks_exact(16)` cuts them.
+unfoldable pub sixteens : ℕ → List ℕ → List (List ℕ)
+sixteens zero labels = []
+sixteens (suc k) labels = take 16 labels ∷ sixteens k (drop 16 labels)
+
+pub yields_sixteens :
+    (k : ℕ) (left : ChunksExact ℕ) (labels : List ℕ)
+    → chunks_exact_rest left ≡ labels → chunks_exact_size left ≡ 16 → length labels ≡ 16 * k
+    → AlwaysYields chunks_exact_steps (λ x. x.now) left (sixteens k labels)
+unfolding sixteens
+yields_sixteens zero left labels is_rest is_size long =
+    λ x j h. absurd (omega (arith, ap length h.1.0, ap length is_rest, length-append x.now (chunks_exact_rest j), h.1.1))
+yields_sixteens (suc k) left labels is_rest is_size long = (
+  λ j h. absurd (omega (arith, h.1.0, ap length is_rest)),
+  λ x j h.
+      let sixteen : length x.now ≡ 16 = h.1.1 ∙ is_size in
+      let cut : labels ≡ x.now ++ chunks_exact_rest j = sym is_rest ∙ h.1.0 in (
+        rw cut (sym (take_at x.now (chunks_exact_rest j) 16 sixteen)),
+        yields_sixteens k j (drop 16 labels) (rw cut (sym (drop_at x.now (chunks_exact_rest j) 16 sixteen))) (h.0 ∙ is_size)
+            (length-drop 16 labels ∙ omega (arith, long)),
+      ),
+)
+
+-- 10: all labels are in their ranges where those of each frame are
+pub sixteens-in_range :
+    (M q k : ℕ) (labels : List ℕ) → length labels ≡ 16 * k
+    → list_all (in_range M q 4) (sixteens k labels) ≡ in_range M q (4 * k) labels
+unfolding sixteens in_range
+sixteens-in_range M q zero labels long = refl
+sixteens-in_range M q (suc k) labels long =
+    ap (λ (r : Bool). in_range M q 4 (take 16 labels) && r)
+    (sixteens-in_range M q k (drop 16 labels) (length-drop 16 labels ∙ omega (arith, long)))
+    ∙ sym (frame-ranges M q k labels long)
 
 -- The labels from frame k on are left, sixteen by sixteen.
 pub record Sixteens (labels : List ℕ) (left : ChunksExact ℕ) (k : ℕ) : Type 0 where
@@ -135,19 +161,6 @@ module _ {labels : List ℕ} {left : ChunksExact ℕ} {k : ℕ} (h : Sixteens la
               sym (drop_at sixteen.now (chunks_exact_rest next) 16 sixteen-long)
               ∙ (sym (ap (drop 16) sixteen-first) ∙ sixteen_on labels k);
         }
-
-  -- of a frame that is left
-  pub sixteens-more :
-      (P : ℕ) → length labels ≡ 16 * P → (sixteen : Bor (List ℕ)) (next : ChunksExact ℕ)
-      → chunks_exact_steps left (Some sixteen) next → k < P
-  sixteens-more P count sixteen next step =
-      omega (
-        arith,
-        ap length (sixteen-first sixteen next step),
-        sixteen-long sixteen next step,
-        length-drop (16 * k) labels,
-        length-append sixteen.now (chunks_exact_rest next),
-      )
 
   -- and no frame is left where none come
   pub sixteens_end :

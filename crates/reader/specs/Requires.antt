@@ -9,15 +9,17 @@ use Rattle.frame.specs.Requires.{Readable}
 use Rattle.frame.specs.declared.shape.Shape.{Shape}
 use Rattle.coder.specs.declared.states.Moved.{Moved}
 use Rattle.coder.specs.Receiving.{all_in_range}
+use Rattle.coder.specs.Sending.{ring_count}
 
 -- settings that were asked for and worked out
 pub record Settled (c : Settings) : Type 0 where
   pub asked : Asked
   pub worked : worked_of asked ≡ Accepted c
 
--- where the labels of a data frame are tested: there are all 16·P of them
+-- where the labels of a data frame are tested: there are all 16·P of them, and M and q are those of accepted settings
 pub record Complete (c : Settings) (labels : List ℕ) : Type 0 where
-  pub settled : Settled c
+  pub rings : ring_count c ≤ 18
+  pub uncoded : c.uncoded ≤ 5
   pub count : length labels ≡ 16 * c.frames
 
 -- and where they are known to be in their ranges

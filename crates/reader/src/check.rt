@@ -26,12 +26,9 @@ fn all_in_range(c: Settings, labels: &[u16]) -> bool
 {
     let m = c.shaping.rings();
     let q = c.uncoded as usize;
-    for sixteen in labels.chunks_exact(16) {
-        if !in_range(m, q, sixteen) {
-            return false;
-        }
-    }
-    true
+    labels
+        .chunks_exact(16)
+        .all(|sixteen| in_range(m, q, sixteen))
 }
 
 // Refusal 11: the numbers of all frames' rings, for reading, if each fits.

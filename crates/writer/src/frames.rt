@@ -49,6 +49,7 @@ pub fn send(st: State, c: Settings, bits: &[u8], out: &mut [u16]) -> Moved
         z: st.z,
     };
     for frame in Frames::of(c) {
+        // By place, since no clause of `chunks_exact_mut` says what the slice holds once its chunks are written: the proof does not close.
         let at = 16 * frame.index;
         moved = send_frame(
             &counts,

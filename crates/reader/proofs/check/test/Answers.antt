@@ -8,7 +8,9 @@ is_exact-requires c = (sound_of (settled_in c.args.st c.args.c c.requires.st_val
 
 pub all_in_range-requires : goal.all_in_range-requires
 all_in_range-requires c =
+    let sound = sound_of (settled_in c.args.st c.args.c c.requires.st_value) in
     record {
-      settled = settled_in c.args.st c.args.c c.requires.st_value;
+      rings = sound.rings.most;
+      uncoded = sound.uncoded-most;
       count = counted_in c.args.c _ _ (sym c.is_exact.ensures ∙ c.if-not-is_exact.false);
     }
