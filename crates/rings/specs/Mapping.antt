@@ -97,7 +97,7 @@ pub record Ranked : Type 0 where
   pub refusal : ℕ
   pub number : ℕ
 
--- the same of an outcome
+-- what is told of an outcome
 abbrev pub ranked : Result ℕ Refusal → Ranked
 ranked (Ok place) = record { refusal = 0; number = place }
 ranked (Err reason) = record { refusal = refusal_number reason; number = 0 }
