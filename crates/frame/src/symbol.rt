@@ -6,7 +6,8 @@ ghost use Rattle.frame.specs.Writing.{symbol_of, turned};
 
 use bits::value_at;
 
-// I1, I2, I3, and the q bits of the first and of the second 2D symbol, as numbers.
+// I1, I2, I3, and the q bits of the first and of the second 2D symbol, as numbers. Their bounds, those of q and that of Z stay in the
+// contracts and are no types: specs/ makes symbols of any labels (`symbol_read`), and a state can hold any Z, which 7 refuses.
 #[derive(Clone, Copy)]
 pub struct Symbol {
     pub i1: u64,

@@ -23,6 +23,7 @@ pub fn write_frame(shape: Shape, ring: &[u8; 8], z: u64, bits: &[u8], out: &mut 
     let q = shape.uncoded;
     let mut at = shape.shell;
     let mut turned = z;
+    // By place: after a loop over `chunks_exact_mut` a proof knows how long the labels are, and not what they are.
     for j in 0..4 {
         let three = j < shape.threes;
         let symbol = symbol_at(&bits[at..], q, three);
