@@ -28,7 +28,7 @@ pub fn ww_parameters(role: u64, s: u64, n: u64, shaping: u64, mark: u64, answer:
 }
 
 // The numbers of a state.
-pub fn numbers_of(st: State) -> [u64; 7]
+pub(crate) fn numbers_of(st: State) -> [u64; 7]
     ensures { result ≡ state_numbers st }
 {
     let asked = st.asked;
