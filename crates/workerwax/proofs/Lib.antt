@@ -15,7 +15,7 @@
 --     Layouts      numbers and labels put and taken one after the other
 --     Lends        how many labels the coder is lent
 --     Refusals     every refusal number fits the 32 bits in which C gets it
---     Ways         the settings, the starts and the ranker by their ways out
+--     Ways         the ranker by its ways out
 --     Coding       the writer and the reader by their ways out
 --     Infos        the calls of any sequence by their ways out, and what the reader and the writer below them did
 -- and for the theorems
