@@ -33,13 +33,7 @@ fn receive_frame(
 }
 
 // The bits of a data frame, straight into the lent buffer. Its frames are ranked already.
-pub fn receive(
-    st: State,
-    c: Settings,
-    labels: &[u16],
-    numbers: &[u64; 16],
-    bits: &mut [u8],
-) -> Moved
+pub fn receive(st: State, c: Settings, labels: &[u16], numbers: &[u64], bits: &mut [u8]) -> Moved
     requires receivable { Receivable st c labels.now bits.old }
     requires ranked { Ranked c labels.now numbers.now }
     ensures bits_after { bits.new ≡ data_bits c st.register st.z labels.now }

@@ -2,7 +2,7 @@
 use mathlib.Core.Path.{◌∙◌}
 use native.Mathlib.Omega.{arith}
 use Rattle.std.specs.Iterator.Adapters.{zip_first, zip_second}
-use Rattle.reader.proofs.Passes.{sound_of, settled_in, paired_none, paired-next, paired_end}
+use Rattle.reader.proofs.Passes.{sound_of, settled_in, paired_none, paired-more, paired-next, paired_end}
 use Rattle.reader.proofs.Incoming.{part-read_first, step-room, step-receivable, step-read}
 use Rattle.reader.proofs.Incoming.{part-read_all, part-read-register, part-read-turned}
 use Rattle.reader.proofs.frames.receive.Goals as goal
@@ -60,3 +60,8 @@ returns c =
       register_value = part-read-register i.read all;
       z_value = part-read-turned i.read all;
     }
+
+pub bounds-numbers-frame : goal.bounds-numbers-frame
+bounds-numbers-frame c =
+    let more = paired-more c.loop-frame.invariant.left c.in-Some.ensures.steps.0 in
+    omega (arith, more, c.requires.ranked.room, c.in-Some.ensures.steps.0.index)
