@@ -1,10 +1,7 @@
 -- `jp::part::part_of` meets its contract.
 use mathlib.Core.Path.{◌≡◌, refl}
-use Prim.Native.Nat.{◌^◌}
-use native.Mathlib.Omega.{arith}
-use lib.Dec.{le→leb}
 use lib.IntN.{pos}
-use lib.Ieee.{binary64, in_float, of_int, of_bits, of_fields, round, size, span, climb, units, odd}
+use lib.Ieee.{binary64, of_int, of_bits, of_fields, round, size, span, climb, units, odd}
 use Rattle.jp.specs.Part.{part_of}
 use Rattle.jp.proofs.part.part_of.Goals as goal
 
@@ -12,10 +9,6 @@ use Rattle.jp.proofs.part.part_of.Goals as goal
 literal : of_bits binary64 4679240012837945344 ≡ of_int binary64 (pos 65536)
 unfolding of_bits of_fields of_int round size span climb units odd
 literal = refl
-
-pub int_to_float-result : goal.int_to_float-result
-unfolding in_float
-int_to_float-result c = le→leb c.args.fraction (2 ^ 53) (omega (arith, c.requires))
 
 pub returns : goal.returns
 unfolding part_of
