@@ -67,8 +67,8 @@ fn steps_all_fit(c: Settings, z: u64, labels: &[u16]) -> bool
     true
 }
 
-// The reader's refusal where the settings are accepted: each test is of the whole data frame. Where none refuses, the numbers of the frames'
-// rings are answered.
+// The reader's refusal where the settings are accepted: each test is of the whole data frame. Where none refuses, the numbers of the
+// frames' rings are answered.
 #[tactic(auto, using(std::proofs::lemmas::Bool::Decides::nat_tests), unfolding(laws::specs::Choice::refusal))]
 pub fn test(
     c: Settings,
