@@ -2,7 +2,7 @@
 use bits::put_digits;
 use fields::check::put_crc;
 use info::info0::{Info0, read, write};
-use refusals::code;
+use refusals::Refusal;
 use spelling::check::tested_crc;
 use std::io;
 
@@ -46,11 +46,11 @@ fn sequence_of(i: u64) -> Option<[u8; 49]> {
     Some(bits)
 }
 
-// To how many of all 131,072 the reader answers the number.
-fn answered(number: u32) -> usize {
+// How many of all 131,072 the reader refuses so, or does not refuse.
+fn answered(refusal: Option<Refusal>) -> usize {
     (0..131072)
         .filter_map(sequence_of)
-        .filter(|bits| code(read(bits)) == number)
+        .filter(|bits| read(bits).err() == refusal)
         .count()
 }
 
@@ -61,10 +61,10 @@ pub fn sweeps(rt: &impl Print) -> io::Result<()> {
     )?;
     println!(rt;
         "of 131072 bodies of 17 bits with their own check, read with 0: {}",
-        answered(0)
+        answered(None)
     )?;
     println!(rt;
         "of 131072 bodies of 17 bits with their own check, refused with 18: {}",
-        answered(18)
+        answered(Some(Refusal::FieldOutOfRange))
     )
 }

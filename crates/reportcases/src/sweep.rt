@@ -5,7 +5,7 @@ use crate::writing::MIXED;
 use bits::put_digits;
 use fields::check::put_crc;
 use info::info1c::{Info1c, read, write};
-use refusals::code;
+use refusals::Refusal;
 use spelling::check::tested_crc;
 use std::io;
 
@@ -27,14 +27,14 @@ fn sequence_of(at: usize, number: u64) -> Option<[u8; 109]>
     Some(bits)
 }
 
-// To how many of six times sixteen the reader answers the number: number i is i % 16 in block i / 16. In the block of 2400 its bits begin
-// at `from`. The remainder of 6 is the block itself, and spares a test.
-fn answered(from: usize, number: u32) -> usize
+// How many of six times sixteen the reader refuses so, or does not refuse: number i is i % 16 in block i / 16. In the block of
+// 2400 its bits begin at `from`. The remainder of 6 is the block itself: within the closure nothing is known of i.
+fn answered(from: usize, refusal: Option<Refusal>) -> usize
     requires { from ≤ 30 }
 {
     (0..96)
         .filter_map(|i| sequence_of(from + i / 16 % 6 * 9, i as u64 % 16))
-        .filter(|bits| code(read(bits)) == number)
+        .filter(|bits| read(bits).err() == refusal)
         .count()
 }
 
@@ -82,8 +82,8 @@ fn comes_back(i: u64) -> bool {
 // The filter at 2400 begins at bit 26, the rate at bit 30.
 pub fn sweeps(rt: &impl Print) -> io::Result<()> {
     for (words, from) in [("filters", 26), ("rates", 30)] {
-        let read = answered(from, 0);
-        let refused = answered(from, 18);
+        let read = answered(from, None);
+        let refused = answered(from, Some(Refusal::FieldOutOfRange));
         println!(rt;
             "{words} 0 to 15 in each block, with their check: read with 0 {read}, refused with 18 {refused}"
         )?;
