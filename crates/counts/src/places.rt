@@ -41,15 +41,22 @@ pub fn locate(row: &[u64], t: usize, r: u64) -> Located
     Located { at: t, rest }
 }
 
-// The largest place up to `top` where a row of running sums is at most s, and s less that sum. The sums lie in memory and rise, so that
-// halving finds the place; `locate` has no sum before it has added up those below, and goes from 0 up.
+// The largest place up to `top` where a row of running sums is at most s, and s less that sum. Candidates are tried from 0 up, one comparison
+// each: halving would find the place in fewer, but then how many a mapping passes over could not be told from the set.
 pub fn locate_weight(row: &[u64], top: usize, s: u64) -> Located
     requires { Ascending row.now top s }
     ensures { result ≡ located_of (at row.now) s top }
 {
-    let at = row[1..top + 1].partition_point(|sum| *sum <= s);
+    for a in 0..top {
+        if s < row[a + 1] {
+            return Located {
+                at: a,
+                rest: s - row[a],
+            };
+        }
+    }
     Located {
-        at,
-        rest: s - row[at],
+        at: top,
+        rest: s - row[top],
     }
 }
