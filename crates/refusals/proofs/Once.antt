@@ -69,6 +69,24 @@ named-number _ = refl
 pub number_once : (q r : Refusal) → number q ≡ number r → q ≡ r
 number_once q r e = sym (named-number q) ∙ ap named e ∙ named-number r
 
+-- Of an outcome a number and a value are told, in a record of some kind: the number is that of the outcome, and the value that of an `Ok`. Then
+-- no two outcomes are told alike, so that at most one fits a contract that says what is told.
+pub told_apart :
+    {A B : Type 0} (told : Result A Refusal → B) (no_of : B → ℕ) (value : B → A)
+    → ((v : Result A Refusal) → no_of (told v) ≡ code v)
+    → ((x : A) → value (told (Ok x)) ≡ x)
+    → (v w : Result A Refusal) → told v ≡ told w → v ≡ w
+told_apart told no_of value is held (Ok x) (Ok y) e = ap Ok (sym (held x) ∙ ap value e ∙ held y)
+told_apart told no_of value is held (Ok x) (Err r) e =
+    let same = sym (is (Ok x)) ∙ ap no_of e ∙ is (Err r) in
+    let some = numbered r in
+    absurd (omega arith)
+told_apart told no_of value is held (Err q) (Ok y) e =
+    let same = sym (is (Err q)) ∙ ap no_of e ∙ is (Ok y) in
+    let some = numbered q in
+    absurd (omega arith)
+told_apart told no_of value is held (Err q) (Err r) e = ap Err (number_once q r (sym (is (Err q)) ∙ ap no_of e ∙ is (Err r)))
+
 -- at most one outcome that holds no value is told by a number
 pub code_once : (v w : Result ⊤ Refusal) → code v ≡ code w → v ≡ w
 code_once (Ok x) (Ok y) e = refl
