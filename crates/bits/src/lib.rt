@@ -24,6 +24,7 @@ pub fn all_bits(bits: &[u8]) -> bool
 }
 
 // The number that n bits are, from `at` on: a place and a count, and no slice, since the contracts above and the rows of a table have both.
+// `Bits` stays a `requires` here and above, and no type of lists of bits: the definitions speak of any list, and callers lend plain bytes.
 pub fn value_at(bits: &[u8], at: usize, n: usize) -> u64
     requires { (at + n ≤ length bits.now) × (n ≤ 31) × Bits bits.now }
     ensures { result ≡ value (take n (drop at bits.now)) }
@@ -47,7 +48,8 @@ pub fn put_digits(x: u64, n: usize, bits: &mut [u8], at: usize)
     }
 }
 
-// One bit at `at`.
+// One bit at `at`: `put_digits` with n = 1, said as the byte that is written. Crate `frame` puts bits one by one and knows them to be bits, so
+// it gets the number itself and not its lowest digit.
 pub fn put_bit(x: u64, bits: &mut [u8], at: usize)
     requires { (x ≤ 1) × (at < length bits.old) }
     ensures { bits.new ≡ put bits.old at (x ∷ []) }

@@ -8,10 +8,10 @@
 ghost use Rattle.std.specs.Prelude.{◌≡◌};
 ghost use Rattle.refusals.specs.Numbers.{number, code};
 
-// Why a call is refused. Names stand in the order of their numbers.
+// Why a call is refused, and the number that C is told for it. None has 15.
 #[derive(Clone, Copy, Debug, PartialEq, Eq)]
 pub enum Refusal {
-    UnknownRole,
+    UnknownRole = 1,
     UnknownRate,
     DataRateOutOfRange,
     UnknownShaping,
@@ -25,7 +25,7 @@ pub enum Refusal {
     UnsentStep,
     NotPermitted,
     NumberTooLarge,
-    WrongPicture,
+    WrongPicture = 16,
     WrongCheck,
     FieldOutOfRange,
 }
@@ -35,25 +35,7 @@ impl Refusal {
     pub fn number(self) -> u32
         ensures { result ≡ number self }
     {
-        match self {
-            Refusal::UnknownRole => 1,
-            Refusal::UnknownRate => 2,
-            Refusal::DataRateOutOfRange => 3,
-            Refusal::UnknownShaping => 4,
-            Refusal::UnstatedMark => 5,
-            Refusal::DeniedDataRate => 6,
-            Refusal::UnfitState => 7,
-            Refusal::WrongLength => 8,
-            Refusal::NotABit => 9,
-            Refusal::OutOfRange => 10,
-            Refusal::UnsentRings => 11,
-            Refusal::UnsentStep => 12,
-            Refusal::NotPermitted => 13,
-            Refusal::NumberTooLarge => 14,
-            Refusal::WrongPicture => 16,
-            Refusal::WrongCheck => 17,
-            Refusal::FieldOutOfRange => 18,
-        }
+        self as u32
     }
 }
 

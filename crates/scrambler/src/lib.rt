@@ -26,7 +26,8 @@ pub fn through(role: u64, register: u64, bit: u64) -> u64
     (bit + near % 2 + far % 2) % 2
 }
 
-// The register after one more scrambled bit.
+// The register after one more scrambled bit. That a register is below 2^23 stays a `requires`, and role and register stay two numbers: the
+// definitions speak of any role and any number, and a type would ask more of the callers.
 #[tactic(auto, unfolding(crate::specs::Scrambler::push))]
 pub fn pushed(register: u64, bit: u64) -> u64
     requires { (register < 2 ^ 23) × (bit ≤ 1) }
@@ -51,7 +52,8 @@ fn pass<const BACK: bool>(role: u64, register: u64, bits: &[u8], out: &mut [u8])
     held
 }
 
-// The scrambled bits for a slice of bits, at the start of `out`, and the register after them.
+// The scrambled bits for a slice of bits, at the start of `out`, and the register after them. This and the inverse below keep their names:
+// docs/PROMISES.md names both, and each has a definition of its own, `Scrambled` and `Descrambled`.
 pub fn scramble_part(role: u64, register: u64, bits: &[u8], out: &mut [u8]) -> u64
     requires { Part register bits.now out.old }
     ensures { Scrambled role register bits.now out.old result out.new }
