@@ -8,7 +8,7 @@ ghost use Rattle.counts.specs.Rows.{at, Known};
 use crate::ring_count::RingCount;
 use crate::rows::Counts;
 
-// How many pairs weigh less than n, for n = 0 to 69.
+// How many pairs weigh less than n, for n = 0 to 69. By place, since each sum needs the one before it.
 fn pair_sums(pairs: &[u64; 69]) -> [u64; 70]
     requires { (p : ℕ) → at pairs.now p ≤ 18 }
     ensures { (n : ℕ) → n ≤ 69 → at result n ≡ sum (at pairs.now) n }
@@ -61,7 +61,8 @@ impl RingCount {
         before + all + gone - 2 * fallen
     }
 
-    // Fours one after the other: none weighs more than 4(m − 1).
+    // Fours one after the other: none weighs more than 4(m − 1). By place, since each count needs the one before it: an iterator over the
+    // row would have to carry that beside it.
     fn four_row(self, pairs: &[u64; 69]) -> [u64; 137]
         requires { at pairs.now ≡ g2 self.m }
         ensures { at result ≡ g4 self.m }
@@ -76,6 +77,8 @@ impl RingCount {
     }
 }
 
+// The counts of M, which comes as a number: the contract asks `Known m` of one, and with a `RingCount` in its place every caller would have
+// to make that first.
 pub fn counts_of(m: u64) -> Counts
     requires { Known m }
     ensures { CountsOf m result }

@@ -12,7 +12,8 @@ pub struct Located {
     pub rest: u64,
 }
 
-// The sum of row[p]·row[t − p] over p < b.
+// The sum of row[p]·row[t − p] over p < b. By place, as (9-4) and (9-5) write it: a `zip` of the row with its part up to t turned round
+// would not show that the two places add up to t.
 pub fn lighter_sum(row: &[u64], t: usize, b: usize) -> u64
     requires { Summable row.now t b }
     ensures { result ≡ lighter (at row.now) t b }
@@ -25,7 +26,7 @@ pub fn lighter_sum(row: &[u64], t: usize, b: usize) -> u64
 }
 
 // The largest b whose sum of row[p]·row[t − p] over p < b is at most r, and r less that sum. Candidates are tried from 0 up, and
-// each trial takes one product off.
+// each trial takes one product off. By place, since the row is read at b and at t − b, and b is answered.
 pub fn locate(row: &[u64], t: usize, r: u64) -> Located
     requires { Locatable row.now t r }
     ensures { result ≡ located_of (lighter (at row.now) t) r t }
@@ -42,7 +43,8 @@ pub fn locate(row: &[u64], t: usize, r: u64) -> Located
 }
 
 // The largest place up to `top` where a row of running sums is at most s, and s less that sum. Candidates are tried from 0 up, one comparison
-// each: halving would find the place in fewer, but then how many a mapping passes over could not be told from the set.
+// each: halving would find the place in fewer, but then how many a mapping passes over could not be told from the set. By place, since the
+// row is read at a + 1 and at a, and a is answered.
 pub fn locate_weight(row: &[u64], top: usize, s: u64) -> Located
     requires { Ascending row.now top s }
     ensures { result ≡ located_of (at row.now) s top }

@@ -1,8 +1,9 @@
 // The counts of an M, as they are kept.
 ghost use Rattle.counts.specs.Rows.{Rows};
 
-// How many pairs and fours of rings below m have each sum, and how many eights are lighter than each weight. A row ends in
-// zeros, so that a sum that is too large counts nothing and no index leaves it. Counts are lent and never copied, since they are 2.7 KB.
+// How many pairs and fours of rings below m have each sum, and how many eights are lighter than each weight. The rows of pairs and
+// fours end in zeros, so that a sum that is too large counts nothing and no index leaves them. Of `lighter` nothing is said beyond
+// 8(M − 1), the largest weight, and nothing there is read. Counts are lent and never copied, since they are 2.7 KB.
 #[derive(Drop)]
 pub struct Counts {
     pub m: u64,

@@ -1,6 +1,7 @@
 // The one table of the crate: how many sets of eight rings below M are lighter than p, which is z8(p) of clause 9.4 (9-6), for
 // p = 0 to 8(M − 1), row after row for M = 1 to 18. Row M starts at 4(M − 1)² − 3(M − 1). Nothing outside this file knows
-// it: `lighter_row` says all that is used.
+// it: `lighter_row` says all that is used. An array of arrays has rows of one length and these have eighteen, so they stand in one array and
+// a formula says where a row starts.
 ghost use Rattle.std.specs.Prelude.{◌≡◌, ℕ, ◌+◌, ◌*◌, ◌-◌, ◌≤◌, ◌<◌};
 ghost use Rattle.listing.specs.Counts.{z8};
 ghost use Rattle.counts.specs.Rows.{at};

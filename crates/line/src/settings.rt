@@ -31,10 +31,12 @@ impl Shaping {
     }
 }
 
-// A checked set of settings, with the numbers that follow from them.
+// A checked set of settings, with the numbers that follow from them. That `frames` is at most 16 and `step` at most `frames` is asked by
+// workers above and not kept here: `settings_of` in specs/Settings.antt and theorems make Settings of any numbers, and a ghost field that
+// says it would change that definition.
 #[derive(Clone, Copy)]
 pub struct Settings {
-    // the sending end: 0 call modem, 1 answer modem; a number, as the scrambler takes any
+    // the sending end: 0 call modem, 1 answer modem; a number, as `scrambled_bit` and the calls for C have it
     pub role: u64,
     // J: data frames in a superframe
     pub superframe: u64,

@@ -1,4 +1,7 @@
-// The tests of the entries, one for each refusal, and the refusals in their order.
+// The tests of the entries and their refusals, in their order. Only 11 is tested in entry.rt, where the number that it needs is known.
+//
+// K and M stay two numbers beside each other: the contracts of `map` and `rank` name them so, and as both take any two, a struct of them
+// would say nothing of either.
 ghost use Rattle.std.specs.Prelude.{◌≡◌, eqb, length, IfOk};
 ghost use Rattle.laws.specs.Choice.{refusal};
 ghost use Rattle.refusals.specs.Numbers.{code};

@@ -50,7 +50,8 @@ fn line_of(input: &[u8]) -> Text
     text
 }
 
-// Puts the line for the input at the front of `line`, and answers how long it is.
+// Puts the line for the input at the front of `line`, and answers how long it is. The text is put together
+// in a `Text` and copied once: docs/PROMISES.md names this function with the buffer that it is lent.
 pub fn answer(input: &[u8], line: &mut [u8; ROOM]) -> usize
     ensures { Answers input.now line.old line.new result }
 {

@@ -15,6 +15,8 @@ use std::io;
 use std::io::Read;
 
 // Fills the front of `space` with the input, as far as there is input and room, and answers how many bytes that is.
+// The loop counts bytes read, and no index. std's `read_exact` refuses an input that is shorter than the space, and `read_to_end` needs a
+// heap.
 fn read_full<R: Read>(input: &mut R, space: &mut [u8]) -> io::Result<usize>
     ensures within { IfOk result (λ read. read ≤ length space.new) }
     ensures bytes { IfOk result (λ read. Consumes (R.remaining input.old) (R.remaining input.new) (take read space.new)) }

@@ -20,7 +20,8 @@ fn worked(s: u64, n: u64, shaping: u64) -> Result<Settings, Refusal>
     })
 }
 
-// The switching sequence as a number: the first mapping frame is the highest bit, and a high frame is 1.
+// The switching sequence as a number: the first mapping frame is the highest bit, and a high frame is 1. The loop in
+// `linecases` prints a word for each frame and tests what is asked here: a function for both would share the call of `next_frame` alone.
 #[tactic(auto, using(crate::proofs::Fits::fits))]
 fn switching(settings: Settings) -> u16
     requires { (1 ≤ settings.frames) × (settings.frames ≤ 16) × (settings.step ≤ settings.frames) }
