@@ -34,7 +34,8 @@ const INFO0: Layout<49, 14, 33> = Layout {
     table: TABLE,
 };
 
-// What an end says of itself. 1 is yes, unless the line says otherwise.
+// What an end says of itself. 1 is yes, unless the line says otherwise. Flags and clock stay numbers: C hands numbers over, and one out of
+// its range must be seen and refused with 18 (`in_range` of crate `fields`).
 #[derive(Clone, Copy, PartialEq, Eq)]
 pub struct Info0 {
     pub support_2743: u64, // bit 12: it supports the symbol rate 2743

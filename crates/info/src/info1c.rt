@@ -45,7 +45,10 @@ const INFO1C: Layout<109, 22, 93> = Layout {
     table: TABLE,
 };
 
-// What is proposed to the answer modem for one symbol rate.
+// The weight of the highest of the count's ten bits. It counts negative.
+const HALF: u64 = 512;
+
+// What is proposed to the answer modem for one symbol rate. All stay numbers, as in `Info0`.
 #[derive(Clone, Copy, PartialEq, Eq)]
 pub struct Block {
     pub carrier: u64, // first bit: 1 the high carrier, 0 the low one
@@ -76,7 +79,8 @@ pub struct Report {
     pub reading: Option<f64>,
 }
 
-// Three numbers in the order of the table, from `at` on, as a block.
+// Three numbers in the order of the table, from `at` on, as a block. No `From<[u64; 3]>`: the three would have to be cut out of the 22 first,
+// at each of the six calls.
 fn block_of(numbers: [u64; 22], at: usize) -> Block
     requires { at + 3 ≤ 22 }
     ensures { result ≡ block_of numbers at }
@@ -89,7 +93,8 @@ fn block_of(numbers: [u64; 22], at: usize) -> Block
 }
 
 impl Info1c {
-    // Numbers in the order of the table as fields. The last one is the count's.
+    // Numbers in the order of the table as fields. The last one is the count's, and is no field. So this and the way back, which takes the
+    // count beside the fields, are no pair of `From`, as they are for INFO0.
     pub fn from_numbers(numbers: [u64; 22]) -> Info1c
         ensures { result ≡ fields_of numbers }
     {
@@ -143,7 +148,7 @@ pub fn read(bits: &[u8]) -> Result<Report, Refusal>
 {
     let numbers = INFO1C.read_sequence(bits)?;
     let fields = Info1c::from_numbers(numbers);
-    let count = signed(numbers[21], 512);
+    let count = signed(numbers[21], HALF);
     let reading = reading_of(count);
     Ok(Report {
         fields,
@@ -156,6 +161,6 @@ pub fn read(bits: &[u8]) -> Result<Report, Refusal>
 pub fn write(fields: Info1c, count: i32, lent: &mut [u8]) -> Result<(), Refusal>
     ensures { SequenceAnswer info1c (numbers_of fields (count_bits count)) lent.old (code result) lent.new }
 {
-    let numbers = fields.numbers(unsigned(count, 512));
+    let numbers = fields.numbers(unsigned(count, HALF));
     INFO1C.write_sequence(&numbers, lent)
 }
