@@ -6,6 +6,7 @@
 --     Acceptance  which calls the entries answer with 0
 --     Demand3     demand 3 over the entries' answers, and that at most one outcome fits
 --     Starred     the cases that document 01 marks as proved
+--     Told        no two outcomes of the ranker are told alike
 pub mod Tests
 pub mod Fours
 pub mod Eights
@@ -13,3 +14,4 @@ pub mod Answering
 pub mod Acceptance
 pub mod Demand3
 pub mod Starred
+pub mod Told
