@@ -1,6 +1,7 @@
 // The cyclic redundancy check (V.34, clause 10.1.2.3.2), over any bits. The register is a number below 2^16, its highest weight the highest
 // power: a bit moves it up by one place and, where the bit and the one that leaves differ, adds x^12 + x^5 + 1, 4129.
-ghost use Rattle.std.specs.Prelude.{◌≡◌, ◌-◌, ◌≤◌, ◌<◌, length, take};
+ghost use Rattle.std.specs.Prelude.{List, ℕ, ◌≡◌, ◌-◌, ◌≤◌, ◌<◌, length, take};
+ghost use Rattle.std.specs.Iterator.{Drains, IsFinite};
 ghost use Rattle.bits.specs.Digits.{Bits};
 ghost use Rattle.sequences.specs.Picture.{inside};
 ghost use Rattle.sequences.specs.Register.{step, crc};
@@ -13,11 +14,24 @@ use crate::picture::FREE;
 const PRESET: u64 = 65535;
 
 // The register after one bit.
-fn stepped(register: u64, bit: u64) -> u64
-    requires { (register < 65536) × (bit ≤ 1) }
+fn stepped(register: u64, bit: u8) -> u64
+    requires { register < 65536 }
     ensures { result ≡ high_value (step (high_digits 16 register) bit) }
 {
-    (register % 32768 * 2) ^ ((register / 32768 + bit) % 2 * 4129)
+    (register % 32768 * 2) ^ ((register / 32768 + u64::from(bit)) % 2 * 4129)
+}
+
+// The check of whatever bits come: the one loop of both functions below.
+fn check_over<I: Iterator<Item = u8> + Drop>(bits: I) -> u64
+    requires can { I.can_next bits }
+    requires ends { IsFinite (I.remaining bits) }
+    ensures { (came : List ℕ) × Drains I.next_gives bits came × (result ≡ high_value (crc came)) }
+{
+    let mut register = PRESET;
+    for bit in bits {
+        register = stepped(register, bit);
+    }
+    register
 }
 
 // The check of some bits.
@@ -25,26 +39,21 @@ pub fn crc_of(bits: &[u8]) -> u64
     requires { Bits bits.now }
     ensures { result ≡ high_value (crc bits.now) }
 {
-    let mut register = PRESET;
-    for bit in bits {
-        register = stepped(register, *bit as u64);
-    }
-    register
+    check_over(bits.iter().copied())
 }
 
-// The check of what stands in the free places of a sequence. Over a list of the places that are free this is the loop above, but to make
-// the list takes a buffer and another loop.
+// The check of what stands in the free places of a sequence.
 pub fn crc_inside(picture: &[u8], bits: &[u8]) -> u64
     requires { (length bits.now ≡ length picture.now) × Bits bits.now }
     ensures { result ≡ high_value (crc (inside picture.now bits.now)) }
 {
-    let mut register = PRESET;
-    for (place, bit) in picture.iter().zip(bits) {
-        if *place == FREE {
-            register = stepped(register, *bit as u64);
-        }
-    }
-    register
+    check_over(
+        picture
+            .iter()
+            .zip(bits)
+            .filter(|(place, _)| **place == FREE)
+            .map(|(_, bit)| *bit),
+    )
 }
 
 // The sixteen bits of a check, highest power first.

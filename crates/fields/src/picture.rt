@@ -12,7 +12,8 @@ fn holds(place: u8, bit: u8) -> bool
     place == FREE || bit == place % 2
 }
 
-// The test of 16: every place does.
+// The test of 16: every place does. Here and below the lengths are a `requires`: docs/ARCHITECTURE.md names these workers, and an array type
+// for both would narrow what they take.
 pub fn all_hold(picture: &[u8], bits: &[u8]) -> bool
     requires { length bits.now ≡ length picture.now }
     ensures { result ≡ all_hold picture.now bits.now }
@@ -23,8 +24,8 @@ pub fn all_hold(picture: &[u8], bits: &[u8]) -> bool
         .all(|(place, bit)| holds(*place, *bit))
 }
 
-// The sequence around a body. The body is taken by a count of the free places so far: of a slice that is written through an iterator a proof
-// knows the length alone.
+// The sequence around a body. `bits[i]`: of a slice that is written through an iterator a proof knows the length alone. The body is taken by
+// a count of the free places so far: `next` of an iterator over it would answer an `Option`, whose `None` the lengths rule out.
 pub fn put_around(picture: &[u8], body: &[u8], bits: &mut [u8])
     requires { (length bits.old ≡ length picture.now) × (length body.now ≡ free picture.now) }
     ensures { bits.new ≡ around picture.now body.now }

@@ -15,7 +15,8 @@ fn lies(field: Field, number: u64) -> bool
     field.least <= number && number <= field.most
 }
 
-// The numbers that the fields are.
+// The numbers that the fields are. `numbers[k]`, since of what a zip with `iter_mut` writes a proof knows nothing. Here and below a number for
+// each row is a `requires`: docs/ARCHITECTURE.md names these workers, and an array type for both would narrow what they take.
 pub fn fields_in(table: &[Field], bits: &[u8], numbers: &mut [u64])
     requires { (length table.now ≡ length numbers.old) × Within (length bits.now) table.now × Bits bits.now }
     ensures { numbers.new ≡ fields_in table.now bits.now }
@@ -36,7 +37,8 @@ pub fn in_range(table: &[Field], numbers: &[u64]) -> bool
         .all(|(field, number)| lies(*field, *number))
 }
 
-// The bits of the numbers, field after field, from the front of a body on.
+// The bits of the numbers, field after field, from the front of a body on. Each field has its own width, so the place is counted on, and no
+// `chunks` give it.
 pub fn put_fields(table: &[Field], numbers: &[u64], body: &mut [u8])
     requires { (length table.now ≡ length numbers.now) × (bit_count table.now ≤ length body.old) }
     ensures { body.new ≡ put body.old 0 (field_bits table.now numbers.now) }

@@ -4,4 +4,4 @@ use Rattle.fields.proofs.Weights.{high_value-step}
 use Rattle.fields.proofs.check.stepped.Goals as goal
 
 pub returns : goal.returns
-returns c = sym (high_value-step c.args.register c.args.bit)
+returns c = rw c.from.ensures (sym (high_value-step c.args.register c.args.bit))

@@ -1,5 +1,5 @@
 -- `fields::picture::put_around` meets its contract.
-use Rattle.fields.proofs.Places.{framed_none, framed-room, framed-free, framed_fixed, framed-all}
+use Rattle.fields.proofs.Places.{framed-room, framed-free, framed_fixed, framed-all}
 use Rattle.fields.proofs.picture.put_around.Goals as goal
 use Rattle.fields.proofs.picture.put_around.Goals.{then-place-eq-FREE, else-place-eq-FREE}
 
