@@ -2,16 +2,20 @@
 use mathlib.Core.Bool.{◌&&◌}
 use mathlib.Core.List.{List, [], ◌∷◌, ◌++◌}
 use mathlib.Core.Path.{◌≡◌, refl, sym, ap, ap₂, ◌∙◌}
-use Prim.Native.Nat.{ℕ, zero, suc, ◌+◌, ◌*◌, ◌-◌, ◌^◌, ◌≤◌}
+use Prim.Native.Nat.{ℕ, zero, suc, ◌+◌, ◌*◌, ◌-◌, ◌^◌, ◌≤◌, ◌<◌}
 use native.Mathlib.Omega.{arith}
 use lib.ListN.{length, get_or, set, take, drop, length-append, length-drop}
-use lib.Seq.{get_or-drop, length-take-le, take_at, drop_at}
+use lib.Seq.{get_or-drop, drop-drop, length-take-le, take_at, drop_at}
 use borrow.Rule.Slice.PartMut.{put_mid}
 use Rattle.laws.specs.Put.{put}
 use Rattle.laws.proofs.Puts.{put_loan}
 use Rattle.std.specs.declared.slice.ChunksExact.{ChunksExact}
 use Rattle.std.specs.Slice.Iter.{chunks_exact_rest, chunks_exact_size, chunks_exact_steps}
+use Rattle.std.specs.declared.iter.Enumerate.{Enumerate}
 use Rattle.std.specs.Iterator.{AlwaysYields}
+use Rattle.std.specs.Iterator.Adapters.{enumerate_source, enumerate_count, enumerate_steps}
+use Rattle.std.specs.Prelude.{Some, None}
+use denote.Ref.{Bor}
 use Rattle.std.specs.List.{list_all}
 use Rattle.std.proofs.lemmas.List.{get_or-take}
 use Rattle.frame.specs.Reading.{symbol_read, in_range, in_range_at}
@@ -64,6 +68,54 @@ module _ (l : List ℕ) where
 -- and the Z among them
 pub turn-four : (labels : List ℕ) (n at : ℕ) → n ≡ 4 → get_or (take n (drop at labels)) 2 0 ≡ get_or labels (at + 2) 0
 turn-four labels n at e = rw e (second (drop at labels) ∙ get_or-drop at labels 2 0)
+
+-- The labels from the j-th four on are left, four by four, j being what is counted.
+pub record FoursLeft (labels : List ℕ) (left : Enumerate (ChunksExact ℕ)) : Type 0 where
+  pub size : chunks_exact_size (enumerate_source left) ≡ 4
+  pub rest : chunks_exact_rest (enumerate_source left) ≡ drop (4 * enumerate_count left) labels
+
+module _ {labels : List ℕ} {left : Enumerate (ChunksExact ℕ)} (h : FoursLeft labels left) where
+  -- the next four are those of symbol j
+  module _ (j : ℕ) (four : Bor (List ℕ)) (next : Enumerate (ChunksExact ℕ))
+      (step : enumerate_steps chunks_exact_steps left (Some (j, four)) next) where
+    pub four-long : length four.now ≡ 4
+    four-long = step.0.1.1 ∙ h.size
+
+    four-first : drop (4 * enumerate_count left) labels ≡ four.now ++ chunks_exact_rest (enumerate_source next)
+    four-first = sym h.rest ∙ step.0.1.0
+
+    pub four_is : four.now ≡ take 4 (drop (4 * enumerate_count left) labels)
+    four_is = sym (ap (take 4) four-first ∙ take_at four.now (chunks_exact_rest (enumerate_source next)) 4 four-long)
+
+    -- and its Z is among them
+    pub turn_is : get_or four.now 2 0 ≡ get_or labels (4 * enumerate_count left + 2) 0
+    turn_is = rw four_is (turn-four labels 4 (4 * enumerate_count left) refl)
+
+    pub fours-next : FoursLeft labels next
+    fours-next =
+        let e : 4 * enumerate_count left + 4 ≡ 4 * enumerate_count next = omega (arith, step.2) in
+        record {
+          size = step.0.0 ∙ h.size;
+          rest =
+              sym (drop_at four.now (chunks_exact_rest (enumerate_source next)) 4 four-long)
+              ∙ (sym (ap (drop 4) four-first) ∙ (drop-drop 4 (4 * enumerate_count left) labels ∙ rw e));
+        }
+
+    -- of 4k labels there are k fours
+    pub four-more : (k : ℕ) → length labels ≡ 4 * k → enumerate_count left < k
+    four-more k long =
+        omega (
+          arith,
+          four-long,
+          ap length four-first,
+          length-append four.now (chunks_exact_rest (enumerate_source next)),
+          length-drop (4 * enumerate_count left) labels,
+        )
+
+  pub fours_end :
+      (k : ℕ) → length labels ≡ 4 * k → (next : Enumerate (ChunksExact ℕ)) → enumerate_steps chunks_exact_steps left None next
+      → k ≤ enumerate_count left
+  fours_end k long next step = omega (arith, step.0.1.0, h.size, ap length h.rest, length-drop (4 * enumerate_count left) labels)
 
 pub fours-in_range :
     (M q k : ℕ) (l : List ℕ) → list_all (λ four. in_range_at (M * 2 ^ q) four 0) (fours k l) ≡ in_range M q k l

@@ -1,7 +1,7 @@
 -- Sixteen labels, symbol by symbol: their ranges, their rings, and their steps of Z. Assumes nothing.
 use mathlib.Core.Bool.{true, ◌&&◌, ◌||◌}
 use mathlib.Core.List.{List, [], ◌∷◌}
-use mathlib.Core.Path.{◌≡◌, refl, sym, subst, ◌∙◌}
+use mathlib.Core.Path.{◌≡◌, sym, subst, ◌∙◌}
 use Prim.Native.Nat.{ℕ, zero, suc, ◌+◌, ◌*◌, ◌-◌, ◌/◌, ◌%◌, ◌^◌, ◌≤◌, ◌<◌}
 use native.Mathlib.Nat.{add-zero}
 use native.Mathlib.Numerals.{add-one}
@@ -12,7 +12,6 @@ use lib.ListN.{length, get_or, drop}
 use lib.Seq.{get_or-drop, drop-drop}
 use Rattle.laws.proofs.Bools.{and_left, and_right, and_parts}
 use Rattle.laws.proofs.Counting.{every-imp, every_at}
-use Rattle.std.proofs.lemmas.List.{ext_get_or}
 use Rattle.listing.specs.Sets.{Below8, of_list}
 use Rattle.frame.specs.Reading.{rings_read, in_range, in_range_at, steps_fit}
 use Rattle.frame.specs.Requires.{RingsFit}
@@ -68,7 +67,7 @@ module _ (M q : ℕ) (labels : List ℕ) where
 -- the eight rings
 
 -- two of each symbol's labels have one
-abbrev pub ring_list : ℕ → List ℕ → List ℕ
+abbrev ring_list : ℕ → List ℕ → List ℕ
 ring_list q labels =
     let ring : ℕ → ℕ = λ at. get_or labels at 0 / 2 ^ q in
     ring 0 ∷ ring 1 ∷ ring 4 ∷ ring 5 ∷ ring 8 ∷ ring 9 ∷ ring 12 ∷ ring 13 ∷ []
@@ -76,33 +75,6 @@ ring_list q labels =
 pub rings-are : (q : ℕ) (labels : List ℕ) → rings_read q 4 labels ≡ ring_list q labels
 unfolding rings_read
 rings-are q labels = simp (get_or-drop, drop-drop)
-
--- where the ring stands that is the i-th of the eight
-abbrev pub ring_place : ℕ → ℕ
-ring_place i = 4 * (i / 2) + i % 2
-
-pub ring_there : (q : ℕ) (labels : List ℕ) (i : ℕ) → i < 8 → get_or (rings_read q 4 labels) i 0 ≡ get_or labels (ring_place i) 0 / 2 ^ q
-ring_there q labels i h = rw (rings-are q labels) (go i h)
-  where
-    go : (i : ℕ) → i < 8 → get_or (ring_list q labels) i 0 ≡ get_or labels (ring_place i) 0 / 2 ^ q
-    go zero h = refl
-    go (suc zero) h = refl
-    go (suc (suc zero)) h = refl
-    go (suc (suc (suc zero))) h = refl
-    go (suc (suc (suc (suc zero)))) h = refl
-    go (suc (suc (suc (suc (suc zero))))) h = refl
-    go (suc (suc (suc (suc (suc (suc zero)))))) h = refl
-    go (suc (suc (suc (suc (suc (suc (suc zero))))))) h = refl
-    go (suc (suc (suc (suc (suc (suc (suc (suc i)))))))) h = absurd (omega arith)
-
--- eight numbers that are those rings
-pub rings-found :
-    (q : ℕ) (labels rings : List ℕ) → length rings ≡ 8
-    → ((i : ℕ) → i < 8 → get_or rings i 0 ≡ get_or labels (ring_place i) 0 / 2 ^ q)
-    → rings ≡ rings_read q 4 labels
-unfolding rings_read
-rings-found q labels rings eight each =
-    ext_get_or 0 rings (rings_read q 4 labels) eight (λ i h. let k : i < 8 = omega arith in each i k ∙ sym (ring_there q labels i k))
 
 -- and of labels in their ranges each is below M
 pub eight-below : (M q : ℕ) (labels : List ℕ) → in_range M q 4 labels ≡ true → Below8 M (of_list (rings_read q 4 labels))
@@ -122,8 +94,8 @@ rings-fit M q labels high few sixteen ranges =
     }
 
 -- so that it can be cast to one
-pub ring-small : (q : ℕ) (labels : List ℕ) → RingsFit q labels → (i : ℕ) → i < 8 → get_or labels (ring_place i) 0 / 2 ^ q < 256
-ring-small q labels fit i h = rw (← ring_there q labels i h) (every_at (λ r. r < 256) 0 (omega arith) (rings_read q 4 labels) fit.small i)
+pub ring-small : (q : ℕ) (labels : List ℕ) → RingsFit q labels → (i : ℕ) → get_or (ring_list q labels) i 0 < 256
+ring-small q labels fit i = rw (rings-are q labels) at (every_at (λ r. r < 256) 0 (omega arith) (rings_read q 4 labels) fit.small i)
 
 -- 12: steps of Z
 

@@ -3,7 +3,7 @@ ghost use Rattle.std.specs.Prelude.{◌||◌, ◌≡◌, ◌+◌, ◌≤◌, ltb
 ghost use Rattle.frame.specs.Reading.{in_range, in_range_at, shell_holds, steps_fit};
 ghost use Rattle.frame.specs.Requires.{Stepped};
 
-use crate::read::{label_at, z_step};
+use crate::read::z_step;
 use crate::shape::Shape;
 
 // Whether the four labels of a symbol are in their ranges, `top` being M·2^q.
@@ -14,7 +14,7 @@ fn symbol_in_range(top: u64, four: &[u16]) -> bool
     u64::from(four[0]) < top && u64::from(four[1]) < top && four[2] <= 3 && four[3] <= 1
 }
 
-// Refusal 10: whether all labels are in their ranges.
+// Refusal 10, `OutOfRange`: whether all labels are in their ranges.
 pub fn in_range(m: u64, q: usize, labels: &[u16]) -> bool
     requires { (length labels.now ≡ 16) × (m ≤ 18) × (q ≤ 5) }
     ensures { result ≡ in_range m q 4 labels.now }
@@ -25,7 +25,7 @@ pub fn in_range(m: u64, q: usize, labels: &[u16]) -> bool
         .all(|four| symbol_in_range(top, four))
 }
 
-// Refusal 11: whether the frame has the bits to write the number of the eight rings.
+// Refusal 11, `UnsentRings`: whether the frame has the bits to write the number of the eight rings.
 pub fn number_fits(shape: Shape, number: u64) -> bool
     requires { shape.shell ≤ 31 }
     ensures { result ≡ shell_holds shape number }
@@ -40,14 +40,14 @@ fn step_fits(three: bool, step: u64) -> bool
     three || step < 2
 }
 
-// Refusal 12: whether no symbol steps further than it can say.
+// Refusal 12, `UnsentStep`: whether no symbol steps further than it can say.
 pub fn steps_fit(threes: usize, z: u64, labels: &[u16]) -> bool
     requires { Stepped z labels.now }
     ensures { result ≡ steps_fit threes z 4 labels.now }
 {
     let mut turned = z;
-    for j in 0..4 {
-        let next = label_at(labels, 4 * j + 2);
+    for (j, four) in labels.chunks_exact(4).enumerate() {
+        let next = u64::from(four[2]);
         if !step_fits(j < threes, z_step(turned, next)) {
             return false;
         }

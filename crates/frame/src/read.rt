@@ -30,11 +30,16 @@ pub fn rings_read(q: usize, labels: &[u16]) -> [u8; 8]
     requires { RingsFit q labels.now }
     ensures { result ≡ rings_read q 4 labels.now }
 {
-    let mut rings = [0; 8];
-    for (i, ring) in rings.iter_mut().enumerate() {
-        *ring = ring_at(q, labels, 4 * (i / 2) + i % 2);
-    }
-    rings
+    [
+        ring_at(q, labels, 0),
+        ring_at(q, labels, 1),
+        ring_at(q, labels, 4),
+        ring_at(q, labels, 5),
+        ring_at(q, labels, 8),
+        ring_at(q, labels, 9),
+        ring_at(q, labels, 12),
+        ring_at(q, labels, 13),
+    ]
 }
 
 // The step from one Z to the next: I2 + 2·I3.
@@ -99,8 +104,7 @@ pub fn read_frame(shape: Shape, number: u64, z: u64, labels: &[u16], bits: &mut 
     let mut at = shape.shell;
     put_digits(number, at, bits, 0);
     let mut turned = z;
-    for j in 0..4 {
-        let four = &labels[4 * j..4 * j + 4];
+    for (j, four) in labels.chunks_exact(4).enumerate() {
         let symbol = symbol_read(q, turned, four);
         at = put_symbol(symbol, q, j < threes, bits, at);
         turned = u64::from(four[2]);

@@ -7,7 +7,8 @@ ghost use Rattle.frame.specs.Writing.{symbol_of, turned};
 use bits::value_at;
 
 // I1, I2, I3, and the q bits of the first and of the second 2D symbol, as numbers. Their bounds, those of q and that of Z stay in the
-// contracts and are no types: specs/ makes symbols of any labels (`symbol_read`), and a state can hold any Z, which 7 refuses.
+// contracts and are no types: specs/ makes symbols of any labels and any q (`symbol_read`, `symbol_of`), the theorems on frames hold of any
+// q (`written`, `accepted`), and a state can hold any Z, which 7, `UnfitState`, refuses.
 #[derive(Clone, Copy)]
 pub struct Symbol {
     pub i1: u64,
@@ -24,7 +25,7 @@ pub fn lead(three: bool) -> usize
     if three { 3 } else { 2 }
 }
 
-// I3: 0 where the symbol carries none.
+// I3: 0 where the symbol carries none, and no Option, since the definition `symbol_of` says 0 there.
 fn third(bits: &[u8], three: bool) -> u64
     requires { cond three 3 2 ≤ length bits.now }
     ensures { result ≡ cond three (get_or bits.now 2 0) 0 }
@@ -32,7 +33,8 @@ fn third(bits: &[u8], three: bool) -> u64
     if three { u64::from(bits[2]) } else { 0 }
 }
 
-// The symbol out of the bits at the head of those that are lent; `three` says whether it carries I3.
+// The symbol out of the bits at the head of those that are lent; `three` says whether it carries I3. That they are bits is asked here and
+// is no type: they are a part of the bytes that `writer::write` is lent, as C lends them to it.
 pub fn symbol_at(bits: &[u8], q: usize, three: bool) -> Symbol
     requires { (symbol_length q three ≤ length bits.now) × (q ≤ 5) × Bits bits.now }
     ensures value { result ≡ symbol_of q three bits.now }
