@@ -31,7 +31,8 @@ const JP: Layout<72, 6, CARRIED> = Layout {
     table: TABLE,
 };
 
-// What the digital modem asks for. A size is that of the constellation of CPu, E2u, SUVu and TRN2u: 0 four points, 1 eight.
+// What the digital modem asks for. A size is that of the constellation of CPu, E2u, SUVu and TRN2u: 0 four points, 1 eight. Both sizes stay
+// numbers: C hands numbers over, and one out of its range must be seen and refused with 18 (`in_range` of crate `fields`).
 #[derive(Clone, Copy, PartialEq, Eq)]
 pub struct Jp {
     pub fraction: u64, // bits 18 to 33: by how much of a symbol Su inverted is to be extended, in 65,536ths, 0 to 65535
@@ -47,7 +48,8 @@ pub struct JpRead {
 }
 
 impl Jp {
-    // Numbers in the order of the table as fields. What is reserved, and the bit that is always 1, is not among them.
+    // Numbers in the order of the table as fields. What is reserved, and the bit that is always 1, is not among them. So this and the way back
+    // are no pair of `From`, as they are for INFO0: what was read here is not what the way back gives.
     fn from_numbers(numbers: [u64; 6]) -> Jp
         ensures { result ≡ fields_of numbers }
     {
