@@ -1,6 +1,5 @@
 // Reading one mapping frame.
-ghost use Rattle.std.specs.Prelude.{cond, [], ◌∷◌, ◌≡◌, ◌+◌, ◌-◌, ◌/◌, ◌%◌, ◌^◌, ◌≤◌, ◌<◌, length, get_or, drop};
-ghost use Rattle.laws.specs.Put.{Put};
+ghost use Rattle.std.specs.Prelude.{◌≡◌, ◌+◌, ◌-◌, ◌/◌, ◌%◌, ◌^◌, ◌≤◌, ◌<◌, length, get_or};
 ghost use Rattle.frame.specs.Reading.{symbol_read, symbol_bits, rings_read, bits_read, frame_read_turned};
 ghost use Rattle.frame.specs.Requires.{RingsFit, Readable};
 ghost use Rattle.frame.specs.Shape.{symbol_length};
