@@ -1,5 +1,5 @@
 -- Pairs and fours of rings, and what is found on the way to them, as the code holds them.
-use Rattle.std.specs.Prelude.{ℕ, ◌*◌, ◌-◌, ◌/◌, ◌%◌}
+use Rattle.std.specs.Prelude.{List, [], ◌∷◌, ℕ, get_or, ◌*◌, ◌-◌, ◌/◌, ◌%◌}
 use Rattle.laws.specs.Largest.{largest}
 use Rattle.listing.specs.Counts.{g4, z8, lighter}
 use Rattle.listing.specs.Sets.{Pair, Four}
@@ -12,6 +12,13 @@ pair_of x = (x.first, x.second)
 
 abbrev pub four_of : FourRings → Four
 four_of x = (pair_of x.first, pair_of x.second)
+
+-- four rings in their order as two pairs, and back
+abbrev pub four_in : List ℕ → Four
+four_in l = ((get_or l 0 0, get_or l 1 0), (get_or l 2 0, get_or l 3 0))
+
+abbrev pub rings_in : Four → List ℕ
+rings_in x = x.0.0 ∷ x.0.1 ∷ x.1.0 ∷ x.1.1 ∷ []
 
 -- steps 2 to 4 of clause 9.4: A, B, R2 and R3 of a number
 unfoldable pub halves_of : ℕ → ℕ → Halves

@@ -3,7 +3,7 @@ ghost use Rattle.std.specs.Prelude.{◌≡◌, ◌<◌};
 ghost use Rattle.listing.specs.Counts.{g4};
 ghost use Rattle.listing.specs.Number.{four_at, place_of_four};
 ghost use Rattle.listing.specs.Sets.{Below4, weight4};
-ghost use Rattle.rings.specs.Parts.{four_of};
+ghost use Rattle.rings.specs.Parts.{four_of, four_in, rings_in};
 
 use crate::pair::{PairOfRings, pair_at, place_of_pair};
 use counts::{Counts, lighter_sum, locate};
@@ -14,6 +14,38 @@ use counts::{Counts, lighter_sum, locate};
 pub struct FourRings {
     pub first: PairOfRings,
     pub second: PairOfRings,
+}
+
+// Four rings in their order as two pairs, and back.
+impl From<[u8; 4]> for FourRings {
+    ghost from_gives = { λ rings four. four_of four ≡ four_in rings };
+
+    fn from(rings: [u8; 4]) -> FourRings {
+        let [m1, m2, m3, m4] = rings;
+        FourRings {
+            first: PairOfRings {
+                first: m1,
+                second: m2,
+            },
+            second: PairOfRings {
+                first: m3,
+                second: m4,
+            },
+        }
+    }
+}
+
+impl From<FourRings> for [u8; 4] {
+    ghost from_gives = { λ four rings. rings ≡ rings_in (four_of four) };
+
+    fn from(four: FourRings) -> [u8; 4] {
+        [
+            four.first.first,
+            four.first.second,
+            four.second.first,
+            four.second.second,
+        ]
+    }
 }
 
 impl FourRings {

@@ -5,7 +5,6 @@ ghost use Rattle.listing.specs.Sets.{Below8, as_list, of_list};
 ghost use Rattle.rings.specs.Parts.{halves_of};
 
 use crate::four::{FourRings, four_at, place_of_four};
-use crate::pair::PairOfRings;
 use counts::{Counts, lighter_sum, locate, locate_weight};
 
 // The weight of a set and of its first four, and the places of its two fours: A, B, R2 and R3.
@@ -47,16 +46,9 @@ pub fn rings_of(counts: &Counts, s: u64) -> [u8; 8]
         halves.weight - halves.first_weight,
         halves.second_place,
     );
-    [
-        front.first.first,
-        front.first.second,
-        front.second.first,
-        front.second.second,
-        back.first.first,
-        back.first.second,
-        back.second.first,
-        back.second.second,
-    ]
+    let [m1, m2, m3, m4] = <[u8; 4]>::from(front);
+    let [m5, m6, m7, m8] = <[u8; 4]>::from(back);
+    [m1, m2, m3, m4, m5, m6, m7, m8]
 }
 
 // The number of eight rings, m1 to m8, below the M of the counts.
@@ -65,26 +57,8 @@ pub fn number_of(counts: &Counts, rings: &[u8; 8]) -> u64
     ensures { result ≡ number counts.now.m (of_list rings.now) }
 {
     let [m1, m2, m3, m4, m5, m6, m7, m8] = *rings;
-    let front = FourRings {
-        first: PairOfRings {
-            first: m1,
-            second: m2,
-        },
-        second: PairOfRings {
-            first: m3,
-            second: m4,
-        },
-    };
-    let back = FourRings {
-        first: PairOfRings {
-            first: m5,
-            second: m6,
-        },
-        second: PairOfRings {
-            first: m7,
-            second: m8,
-        },
-    };
+    let front = FourRings::from([m1, m2, m3, m4]);
+    let back = FourRings::from([m5, m6, m7, m8]);
     let b = front.weight();
     let a = b + back.weight();
     let first = place_of_four(counts, front);

@@ -22,5 +22,7 @@ four_at-back-requires c = (known _ _ c.requires _ c.halves_of-halves.ensures).se
 
 pub returns : goal.returns
 returns c =
+    let whole = known _ _ c.requires _ c.halves_of-halves.ensures in
+    rw (c.from.ensures, c.from-2.ensures) (
     ap as_list
-    (ap₂ (λ x y. (x, y)) c.four_at-front.ensures c.four_at-back.ensures ∙ sym (known _ _ c.requires _ c.halves_of-halves.ensures).whole)
+    (ap₂ (λ x y. (x, y)) c.four_at-front.ensures c.four_at-back.ensures ∙ sym whole.whole))
