@@ -1,18 +1,18 @@
 // The check of parts of the nine bytes "123456789", of which 29B1 is known for the whole.
 use spelling::check::tested_crc;
+use spelling::spell::spell;
 use std::io;
 
 // The bits of nine bytes, the highest of each byte first.
 fn bits_of(bytes: &[u8; 9]) -> [u8; 72] {
     let mut bits = [0u8; 72];
     for (bits, byte) in bits.chunks_exact_mut(8).zip(bytes) {
-        for (place, bit) in bits.iter_mut().rev().enumerate() {
-            *bit = (byte >> (place % 8)) % 2;
-        }
+        spell(u64::from(*byte), bits);
     }
     bits
 }
 
+// A part of them. All six of `cases` lie within and are bits; one that did not would print no line, where the expected output has six.
 fn part(rt: &impl Print, bits: &[u8; 72], from: usize, to: usize) -> io::Result<()> {
     let Some(check) = bits.get(from..to).and_then(tested_crc) else {
         return Ok(());

@@ -9,7 +9,8 @@ use std::io;
 // 01110010, which are the digits of 2 + 4 + 8 + 64.
 const SYNC: u64 = 78;
 
-// Number i of the 73,728 permitted sets: twelve fields of one bit, difference 0 to 5 and clock 0 to 2.
+// Number i of the 73,728 permitted sets: twelve fields of one bit, difference 0 to 5 and clock 0 to 2. The remainders are a counter of mixed
+// radix, in place of fourteen loops, one in another.
 fn permitted(i: u64) -> Info0 {
     Info0 {
         support_2743: i % 2,
@@ -46,7 +47,8 @@ fn sequence_of(i: u64) -> Option<[u8; 49]> {
     Some(bits)
 }
 
-// How many of all 131,072 the reader refuses so, or does not refuse.
+// How many of all 131,072 the reader refuses so, or does not refuse. A body with no check would be dropped, but all are bits; the two numbers
+// that are printed make 131,072, so that one dropped would be seen.
 fn answered(refusal: Option<Refusal>) -> usize {
     (0..131072)
         .filter_map(sequence_of)

@@ -7,12 +7,15 @@ use refusals::code;
 use spelling::show::{Parts, Spaced};
 use std::io;
 
+// In the order of V.34's Table 14. The writer takes all fourteen numbers of `MIXED` at once, and of `ABOVE` one at a time: pairs of the two
+// would first be taken apart again.
 const MIXED: [u64; 14] = [1, 0, 1, 1, 0, 0, 1, 1, 0, 3, 0, 1, 1, 0];
 
 const ABOVE: [u64; 14] = [2, 2, 2, 2, 2, 2, 2, 2, 2, 6, 2, 2, 3, 2];
 
-// The mixed fields with a number in the place of field k. The writer is lent the first bytes of 51 that hold 9, and all are shown after the
-// call: a refusal leaves them as they were, and a success writes exactly 49.
+// The mixed fields with a number in the place of field k: with names for the fields, the loop of `above` would be fourteen calls. The writer is
+// lent the first bytes of 51 that hold 9, and all are shown after the call: a refusal leaves them as they were, and a success writes exactly
+// 49.
 fn writes(rt: &impl Print, k: usize, number: u64, lent: usize) -> io::Result<()>
     requires { (k < 14) × (lent ≤ 51) }
 {

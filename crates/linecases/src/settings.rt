@@ -20,7 +20,9 @@ fn settings(rt: &impl Print, s: u64, n: u64, shaping: u64, mark: u64) -> io::Res
     }
 }
 
-// The switching of a data frame, a word for each mapping frame. What `next_frame` asks is tested: it holds of accepted settings.
+// The switching of a data frame, a word for each mapping frame. What `next_frame` asks holds of accepted settings. It is tested, since to show
+// it takes a lemma, a contract and a `requires`, as in `tables`, for one program that prints. `tables` has this loop too, but makes a number of
+// the words, and a shared one would take a closure for what is done with each.
 fn switching(rt: &impl Print, settings: Settings) -> io::Result<()> {
     let Settings { frames, step, .. } = settings;
     let mut counter = 0;
@@ -52,7 +54,8 @@ fn switched(rt: &impl Print, s: u64, n: u64) -> io::Result<()> {
     println!(rt)
 }
 
-// Number i of role 0 to 2, s 0 to 6, n 0 to 16, shaping 0 to 2 and mark 0 to 3, 4,284 in all.
+// Number i of role 0 to 2, s 0 to 6, n 0 to 16, shaping 0 to 2 and mark 0 to 3, 4,284 in all. The remainders are a counter of mixed radix, in
+// place of five loops, one in another: one range is a chain that counts.
 fn asked_of(i: u64) -> Asked {
     Asked {
         role: i % 3,
@@ -63,7 +66,7 @@ fn asked_of(i: u64) -> Asked {
     }
 }
 
-// How many of them get the number.
+// How many of them get the number. It is a number and no `Refusal`, since 0 to 6 is what is printed.
 fn answered(number: u32) -> usize {
     (0..4284)
         .filter(|i| code(work_out(asked_of(*i))) == number)

@@ -18,13 +18,16 @@ pub fn spelled(front: u64, back: u64) -> [u8; 111] {
     bits
 }
 
-// The mixed sequence, in which all blocks differ. Its end is the offset, ten bits, and the check, sixteen.
+// The mixed sequence, in which all blocks differ, with the ten bits of an offset and the sixteen of a check.
 pub fn mixed(offset: u64, check: u64) -> [u8; 111] {
-    spelled(
+    let mut bits = spelled(
         0b1111_01110010_101_010_0010011_111001010_001010111_100000011,
-        0b011101000_110101011_001001001_0000000000_0000000000000000_1111
-            + ((offset % 1024 << 16 | check % 65536) << 4),
-    )
+        0b011101000_110101011_001001001_0000000000_0000000000000000_1111,
+    );
+    let (offset_bits, check_bits) = bits[79..105].split_at_mut(10);
+    spell(offset, offset_bits);
+    spell(check, check_bits);
+    bits
 }
 
 // Any bits, read: the reading is never a NaN, and so it has a bit pattern of its own.

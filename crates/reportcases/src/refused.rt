@@ -6,7 +6,8 @@ use crate::reading::{mixed, reads};
 use bits::put_digits;
 use std::io;
 
-// Bytes in the places of bits, and so many lent.
+// Bytes in the places of bits, and so many lent. All places below are inside; to ask it of a list takes a clause over its pairs, and a change
+// that was left out would be seen in the bits that are printed.
 fn bytes(rt: &impl Print, changes: &[(usize, u8)], lent: usize) -> io::Result<()>
     requires { lent ≤ 111 }
 {
@@ -26,7 +27,7 @@ fn byte(rt: &impl Print, place: usize, byte: u8) -> io::Result<()> {
 
 // A filter or a rate from a place on, lowest weight first, and the check of it.
 fn four(rt: &impl Print, at: usize, number: u64, check: u64) -> io::Result<()>
-    requires { (at + 4 ≤ 111) × (check < 65536) }
+    requires { at + 4 ≤ 111 }
 {
     let mut bits = mixed(OFFSET, check);
     put_digits(number, 4, &mut bits, at);

@@ -28,7 +28,9 @@ fn sequence_of(at: usize, number: u64) -> Option<[u8; 109]>
 }
 
 // How many of six times sixteen the reader refuses so, or does not refuse: number i is i % 16 in block i / 16. In the block of
-// 2400 its bits begin at `from`. The remainder of 6 is the block itself: within the closure nothing is known of i.
+// 2400 its bits begin at `from`. The remainder of 6 is the block itself: within the closure nothing is known of i. One range for the two is a
+// chain that counts. A sequence with no check would be dropped, but all are bits; the two numbers that are printed make 96, so that one
+// dropped would be seen.
 fn answered(from: usize, refusal: Option<Refusal>) -> usize
     requires { from ≤ 30 }
 {
@@ -39,6 +41,7 @@ fn answered(from: usize, refusal: Option<Refusal>) -> usize
 }
 
 // Number i of 8,192 sets: each power reduction, further reduction and MD once, and every carrier, filter and rate in every block.
+// The remainders are a counter of mixed radix, in place of three loops, one in another, with the blocks going round beside them.
 fn permitted(i: u64) -> [u64; 22] {
     let j = i % 8192;
     let a = i % 2;

@@ -50,7 +50,8 @@ fn writes(rt: &impl Print, k: usize, number: u64, count: i32, lent: usize) -> io
     )
 }
 
-// One above the range of field k. From field 3 on they are carrier, filter and rate, six times.
+// One above the range of field k. From field 3 on they are carrier, filter and rate, six times. A field is its place in Table 15, as in
+// `MIXED`: by names, the loop over them would be a list of twenty-one.
 fn above(k: usize) -> u64 {
     match k {
         0 | 1 => 8,

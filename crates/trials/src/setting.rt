@@ -1,5 +1,6 @@
 // Every legal setting with mark 1, by its number, at its start.
 ghost use Rattle.std.specs.Prelude.{◌≤◌};
+ghost use Rattle.trials.specs.declared.setting.TheConstants.{BITS, LABELS};
 
 use coder::State;
 use line::Asked;
@@ -16,8 +17,8 @@ pub struct Setting {
     pub bits: usize,
     pub labels: usize,
     pub highest: u16,
-    pub ghost bits_fit: { bits ≤ 1248 },
-    pub ghost labels_fit: { labels ≤ 256 },
+    pub ghost bits_fit: { bits ≤ BITS },
+    pub ghost labels_fit: { labels ≤ LABELS },
 }
 
 // Some register for the start of a setting, each another one.
@@ -25,7 +26,8 @@ fn register_of(i: u64) -> u64 {
     i % 65536 * 24681 % 8388608
 }
 
-// Number i of the 336 settings of role 0 and 1, shaping 0 and 1, s 0 to 5 and n 1 to 14.
+// Number i of the 336 settings of role 0 and 1, shaping 0 and 1, s 0 to 5 and n 1 to 14. The remainders are a counter of mixed radix, in place
+// of four loops, one in another: the start and the bits of a setting come of its number too.
 fn asked_of(i: u64) -> Asked {
     Asked {
         role: i % 2,
@@ -36,7 +38,9 @@ fn asked_of(i: u64) -> Asked {
     }
 }
 
-// It at its start, and its numbers, L being 4·M·2^q; nothing where it is refused.
+// It at its start, and its numbers, L being 4·M·2^q; nothing where it is refused. That the numbers fit holds of every accepted setting, and is
+// tested: to show it takes lemmas and a contract on what `work_out` accepts, and a setting that did not fit would be missing in what `rounds`
+// counts.
 pub fn setting_of(i: u64) -> Option<Setting> {
     let asked = asked_of(i);
     let state = coder::start(asked, register_of(i), i % 4).ok()?;
