@@ -1,7 +1,7 @@
 // The ring counts of the two shapings, by K.
 
 // The smallest M with M^8 at least 2^K, for K = 0 to 31.
-pub const MINIMUM: [u64; 32] = [
+pub(crate) const MINIMUM: [u64; 32] = [
     1, // 2^(0/8)
     2, // 2^(1/8)
     2, // 2^(2/8)
@@ -37,7 +37,7 @@ pub const MINIMUM: [u64; 32] = [
 ];
 
 // The whole number nearest to 1.25·2^(K/8), or the minimum where that is smaller, for K = 0 to 31.
-pub const EXPANDED: [u64; 32] = [
+pub(crate) const EXPANDED: [u64; 32] = [
     1, // 1.25·2^(0/8)
     2, // 1.25·2^(1/8)
     2, // 1.25·2^(2/8)
