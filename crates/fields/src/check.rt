@@ -43,7 +43,7 @@ pub fn crc_of(bits: &[u8]) -> u64
 }
 
 // The check of what stands in the free places of a sequence.
-pub fn crc_inside(picture: &[u8], bits: &[u8]) -> u64
+pub(crate) fn crc_inside(picture: &[u8], bits: &[u8]) -> u64
     requires { (length bits.now ≡ length picture.now) × Bits bits.now }
     ensures { result ≡ high_value (crc (inside picture.now bits.now)) }
 {
@@ -67,7 +67,7 @@ pub fn put_crc(crc: u64, bits: &mut [u8])
 }
 
 // The last sixteen places of a body get the check of those before them.
-pub fn seal(body: &mut [u8])
+pub(crate) fn seal(body: &mut [u8])
     requires { (16 ≤ length body.old) × Bits (take (length body.old - 16) body.old) }
     ensures { body.new ≡ sealed (take (length body.old - 16) body.old) }
 {
