@@ -5,7 +5,8 @@ ghost use Rattle.coder.specs.Answers.{exact, answered, coded};
 use crate::states::{Coded, Moved, State};
 use line::Settings;
 
-// As many bytes as the user has bits, and 16·P labels.
+// As many bytes as the user has bits, and 16·P labels. That P is at most 16 is asked here, since `done` below and `values` of `line` take
+// any settings, and an invariant of `Settings` would leave them fewer.
 pub fn is_exact(c: Settings, bits: usize, labels: usize) -> bool
     requires { c.frames ≤ 16 }
     ensures { result ≡ exact c bits labels }
@@ -13,7 +14,8 @@ pub fn is_exact(c: Settings, bits: usize, labels: usize) -> bool
     bits as u64 == c.user && labels as u64 == 16 * c.frames
 }
 
-// A coded data frame: N bits, and the state moved on.
+// A coded data frame: N bits, and the state moved on. A state and its settings stand side by side, here and in the writer and the reader,
+// since `coded`, `Sendable` and `Receivable` speak of both.
 pub fn done(c: Settings, st: State, moved: Moved) -> Coded
     ensures { answered st (Ok result) ≡ coded c st moved.register moved.z }
 {

@@ -6,7 +6,7 @@ use crate::states::State;
 use line::{Asked, work_out};
 use refusals::Refusal;
 
-// A line at its start, with the register and Z that it is given. The settings' own refusal comes first, then 7.
+// A line at its start, with the register and Z that it is given. The settings' own refusal comes first, then 7, `UnfitState`.
 pub fn start(asked: Asked, register: u64, z: u64) -> Result<State, Refusal>
     ensures { started result ≡ started_of (state_of asked register z) }
 {

@@ -14,7 +14,7 @@ pub struct State {
 }
 
 impl State {
-    // 7: register 2^23 or more, or Z above 3.
+    // Refusal 7, `UnfitState`: register 2^23 or more, or Z above 3.
     pub fn is_unfit(self) -> bool
         ensures { result ≡ unfit self }
     {
@@ -46,4 +46,16 @@ pub struct Coded {
 pub struct Moved {
     pub register: u64,
     pub z: u64,
+}
+
+// Those of a state, before its data frame.
+impl From<State> for Moved {
+    ghost from_gives = { λ st moved. moved ≡ record { register = st.register; z = st.z } };
+
+    fn from(st: State) -> Moved {
+        Moved {
+            register: st.register,
+            z: st.z,
+        }
+    }
 }

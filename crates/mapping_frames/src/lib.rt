@@ -23,10 +23,10 @@ pub struct Frame {
 // The mapping frames that are left: the index of the next one, the switching counter before it, and where its bits start.
 #[derive(Clone, Copy)]
 pub struct Frames {
-    pub settings: Settings,
-    pub index: usize,
-    pub counter: u64,
-    pub start: usize,
+    settings: Settings,
+    index: usize,
+    counter: u64,
+    start: usize,
 }
 
 impl Frames {

@@ -19,7 +19,8 @@ use mapping_frames::Frames;
 use refusals::Refusal;
 use rings::number_of;
 
-// Refusal 10: whether all labels are in their ranges.
+// Refusal 10, `OutOfRange`: whether all labels are in their ranges. Settings and labels stand side by side, here and below, since the
+// definitions of `coder` speak of both: `all_in_range`, `numbers_fit`, `all_steps_fit`.
 fn all_in_range(c: Settings, labels: &[u16]) -> bool
     requires { Complete c labels.now }
     ensures { result ≡ all_in_range c labels.now }
@@ -31,7 +32,7 @@ fn all_in_range(c: Settings, labels: &[u16]) -> bool
         .all(|sixteen| in_range(m, q, sixteen))
 }
 
-// Refusal 11: the numbers of all frames' rings, for reading, if each fits.
+// Refusal 11, `UnsentRings`: the numbers of all frames' rings, for reading, if each fits.
 fn numbers_of(c: Settings, counts: &Counts, labels: &[u16]) -> Option<[u64; 16]>
     requires ranging { Ranging c labels.now }
     requires counted { counts.now.m ≡ ring_count c }
@@ -46,12 +47,13 @@ fn numbers_of(c: Settings, counts: &Counts, labels: &[u16]) -> Option<[u64; 16]>
         if !number_fits(frame.shape, number) {
             return None;
         }
+        // By place, since no clause says what a zip with `iter_mut` writes.
         numbers[frame.index] = number;
     }
     Some(numbers)
 }
 
-// Refusal 12: whether the steps of Z of every frame fit.
+// Refusal 12, `UnsentStep`: whether the steps of Z of every frame fit.
 fn steps_all_fit(c: Settings, z: u64, labels: &[u16]) -> bool
     requires ranging { Ranging c labels.now }
     requires z_bound { z ≤ 3 }
@@ -68,7 +70,7 @@ fn steps_all_fit(c: Settings, z: u64, labels: &[u16]) -> bool
 }
 
 // The reader's refusal where the settings are accepted: each test is of the whole data frame. Where none refuses, the numbers of the
-// frames' rings are answered.
+// frames' rings are answered. Settings and state stand side by side, since `read_refusal` speaks of both.
 #[tactic(auto, using(std::proofs::lemmas::Bool::Decides::nat_tests), unfolding(laws::specs::Choice::refusal))]
 pub fn test(
     c: Settings,

@@ -11,7 +11,8 @@ use coder::states::{Coded, State};
 use line::{Settings, work_out};
 use refusals::Refusal;
 
-// 7, 8 and 9, for accepted settings.
+// Refusals 7, `UnfitState`, 8, `WrongLength`, and 9, `NotABit`, for accepted settings. These stand beside the state, since `write_refusal`
+// speaks of both. P is at most 16, as `is_exact` asks.
 #[tactic(auto, using(std::proofs::lemmas::Bool::Decides::nat_tests), unfolding(laws::specs::Choice::refusal))]
 fn test(c: Settings, st: State, bits: &[u8], lent: usize) -> Result<(), Refusal>
     requires { c.frames ≤ 16 }

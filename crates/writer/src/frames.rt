@@ -16,6 +16,7 @@ use rings::rings_of;
 use scrambler::scramble_part;
 
 // One mapping frame: its bits are scrambled, S gives the rings, and the labels go straight into the part that is lent.
+// The role stands apart from the register, which alone moves on: `scramble_part` takes both.
 fn send_frame(
     counts: &Counts,
     role: u64,
@@ -27,6 +28,7 @@ fn send_frame(
     requires { FrameSendable counts.now.m shape before bits.now out.old }
     ensures { FrameSent counts.now.m shape role before bits.now result out.new }
 {
+    // A frame has at most 80 bits: fixed memory, of which they take the front.
     let mut space = [0; 80];
     let register = scramble_part(role, before.register, bits, &mut space);
     let scrambled = &space[..bits.len()];
@@ -36,7 +38,7 @@ fn send_frame(
     Moved { register, z }
 }
 
-// The labels of a data frame, straight into the lent buffer.
+// The labels of a data frame, straight into the lent buffer. State and settings stand side by side, since `Sendable` speaks of both.
 pub fn send(st: State, c: Settings, bits: &[u8], out: &mut [u16]) -> Moved
     requires { Sendable st c bits.now out.old }
     ensures out_after { out.new ≡ data_labels c st.register st.z bits.now }
@@ -44,10 +46,7 @@ pub fn send(st: State, c: Settings, bits: &[u8], out: &mut [u16]) -> Moved
     ensures z_value { result.z ≡ data_turned c st.register st.z bits.now }
 {
     let counts = counts_of(c.shaping.rings());
-    let mut moved = Moved {
-        register: st.register,
-        z: st.z,
-    };
+    let mut moved = Moved::from(st);
     for frame in Frames::of(c) {
         // By place, since no clause of `chunks_exact_mut` says what the slice holds once its chunks are written: the proof does not close.
         let at = 16 * frame.index;

@@ -22,7 +22,7 @@ loop-frame-init c =
       going = (left.going, omega (arith, left.sixteens.size));
       ends = tt;
       left = left;
-      read = rw all (part-read_first c.args.st c.args.c _ _ c.requires.receivable);
+      read = rw (all, c.from-moved.ensures) (part-read_first c.args.st c.args.c _ _ c.requires.receivable);
     })
 
 pub slice_bounds-receive_frame-end : goal.slice_bounds-receive_frame-end
@@ -55,10 +55,11 @@ pub returns : goal.returns
 returns c =
     let i = c.loop-frame.invariant in
     let all = paired_end i.left c.requires.receivable.count c.in-None.ensures.steps in
+    let read = rw c.from-moved.ensures at i.read in
     record {
-      bits_after = part-read_all i.read all;
-      register_value = part-read-register i.read all;
-      z_value = part-read-turned i.read all;
+      bits_after = part-read_all read all;
+      register_value = part-read-register read all;
+      z_value = part-read-turned read all;
     }
 
 pub bounds-numbers-frame : goal.bounds-numbers-frame

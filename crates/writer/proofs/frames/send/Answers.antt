@@ -18,7 +18,7 @@ loop-frame-init c =
     let a = c.args in
     let sound = accepted-sound a.st.asked a.c c.requires.worked in
     let start = c.into_iter-frame-iterator.ensures.into_iter_gives ∙ c.of-frame-items.ensures in
-    rw start
+    rw (start, c.from-moved.ensures)
     (record {
       going = going_none a.c sound;
       ends = tt;
@@ -53,8 +53,9 @@ pub returns : goal.returns
 returns c =
     let i = c.loop-frame.invariant in
     let all : c.args.c.frames ≤ c.loop-frame.frame-iterator.index = omega (arith, rw i.same at c.in-None.ensures.steps.0) in
+    let sent = rw c.from-moved.ensures at i.sent in
     record {
-      out_after = part-sent-labels i.sent all;
-      register_value = part-sent-register i.sent all;
-      z_value = part-sent-turned i.sent all;
+      out_after = part-sent-labels sent all;
+      register_value = part-sent-register sent all;
+      z_value = part-sent-turned sent all;
     }
