@@ -13,8 +13,8 @@ use crate::starting::numbers_of;
 use coder::{Coded, State};
 use refusals::{Refusal, code};
 
-// How many labels the coder is lent for slices of these lengths. No data frame has 0 labels, so the coder then refuses with 8, in its
-// place among the other refusals, and no order is said twice.
+// How many labels the coder is lent for slices of these lengths. No data frame has 0 labels, so the coder then refuses with 8
+// (`WrongLength`), in its place among the other refusals, and no order is said twice.
 #[tactic(auto, using(std::proofs::lemmas::Bool::Decides::nat_tests), unfolding(crate::specs::Lending::lent_labels))]
 fn lent_labels(labels: usize, answer: usize) -> usize
     ensures value { result ≡ lent_labels labels answer }
@@ -56,7 +56,8 @@ pub fn ww_write(
     code(answer_write(st, bits, labels, answer))
 }
 
-// Its outcome by name. No data frame has more labels than there is room for.
+// Lays out the labels and the next state, if the writer doesn't refuse. The labels are written into an array as long as the longest data
+// frame, of which a part is lent, since nothing is allocated (a rule of the project: no heap).
 fn answer_write(st: State, bits: &[u8], labels: &mut [u8], answer: &mut [u8]) -> Result<(), Refusal>
     ensures { WriteCall st bits.now labels.old answer.old (code result) labels.new answer.new }
 {
@@ -89,7 +90,7 @@ pub fn ww_read(
     code(answer_read(st, labels, bits, answer))
 }
 
-// Its outcome by name.
+// Takes the labels from their bytes, into an array as above, and lays out the next state, if the reader doesn't refuse.
 fn answer_read(st: State, labels: &[u8], bits: &mut [u8], answer: &mut [u8]) -> Result<(), Refusal>
     ensures { ReadCall st labels.now bits.old answer.old (code result) bits.new answer.new }
 {

@@ -31,7 +31,8 @@ pub fn ww_jp_read(bits: &[u8], answer: &mut [u8]) -> u32
     code(answer_jp(bits, answer))
 }
 
-// Its outcome by name.
+// Reads Jp, and lays out what it says. The test of the length, the entry and the layout are its own, for the reason at the head of
+// informing.rt.
 fn answer_jp(bits: &[u8], answer: &mut [u8]) -> Result<(), Refusal>
     ensures { JpReadCall bits.now answer.old (code result) answer.new }
 {

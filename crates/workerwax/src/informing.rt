@@ -14,6 +14,9 @@ use offset::reading::{is_reading, pattern_of};
 use offset::signed::{signed, unsigned};
 use refusals::{Refusal, code};
 
+// The weight of the highest of 32 bits, which counts negative: C has the count of a frequency offset in 32.
+const TOP_BIT: u64 = 2147483648;
+
 // The fields of an INFO0 sequence that was received.
 pub fn ww_info0_read(bits: &[u8], fields: &mut [u8]) -> u32
     ensures { Info0ReadCall bits.now fields.old result fields.new }
@@ -21,7 +24,7 @@ pub fn ww_info0_read(bits: &[u8], fields: &mut [u8]) -> u32
     code(answer_info0(bits, fields))
 }
 
-// Its outcome by name.
+// Reads INFO0, and lays out its fields.
 fn answer_info0(bits: &[u8], fields: &mut [u8]) -> Result<(), Refusal>
     ensures { Info0ReadCall bits.now fields.old (code result) fields.new }
 {
@@ -40,7 +43,7 @@ pub fn ww_info0_write(fields: &[u8], bits: &mut [u8]) -> u32
     code(send_info0(fields, bits))
 }
 
-// Its outcome by name.
+// Takes the fields from their bytes, and has INFO0 written.
 fn send_info0(fields: &[u8], bits: &mut [u8]) -> Result<(), Refusal>
     ensures { Info0WriteCall fields.now bits.old (code result) bits.new }
 {
@@ -68,7 +71,7 @@ pub fn ww_info1c_read(bits: &[u8], report: &mut [u8]) -> u32
     code(answer_info1c(bits, report))
 }
 
-// Its outcome by name.
+// Reads INFO1c, and lays out its fields, with the count in 32 bits, and the reading behind them.
 fn answer_info1c(bits: &[u8], report: &mut [u8]) -> Result<(), Refusal>
     ensures { Info1cReadCall bits.now report.old (code result) report.new }
 {
@@ -76,7 +79,7 @@ fn answer_info1c(bits: &[u8], report: &mut [u8]) -> Result<(), Refusal>
         return Err(Refusal::WrongLength);
     }
     let found = info1c::read(bits)?;
-    let count = unsigned(found.count, 2147483648);
+    let count = unsigned(found.count, TOP_BIT);
     let (sent, offset) = report.split_at_mut(88);
     put_numbers(sent, &found.fields.numbers(count));
     put_numbers(offset, &reading_numbers(found.reading));
@@ -90,7 +93,7 @@ pub fn ww_info1c_write(fields: &[u8], bits: &mut [u8]) -> u32
     code(send_info1c(fields, bits))
 }
 
-// Its outcome by name.
+// Takes the fields from their bytes, with the count out of 32 bits, and has INFO1c written.
 fn send_info1c(fields: &[u8], bits: &mut [u8]) -> Result<(), Refusal>
     ensures { Info1cWriteCall fields.now bits.old (code result) bits.new }
 {
@@ -99,6 +102,6 @@ fn send_info1c(fields: &[u8], bits: &mut [u8]) -> Result<(), Refusal>
     }
     let mut numbers = [0; 22];
     take_numbers(fields, &mut numbers);
-    let count = signed(numbers[21], 2147483648);
+    let count = signed(numbers[21], TOP_BIT);
     info1c::write(Info1c::from_numbers(numbers), count, bits)
 }

@@ -15,8 +15,8 @@ pub fn ww_map(k: u64, m: u64, number: u64, rings: &mut [u8]) -> u32
     code(rings::map(k, m, number, rings))
 }
 
-// How many rings the ranker is shown. Where it is shown none it refuses with 8, in its place among the other refusals. So that is what it
-// is shown where the answer has not its four bytes, and no order is said twice.
+// How many rings the ranker is shown. Where it is shown none it refuses with 8 (`WrongLength`), in its place among the other refusals. So
+// that is what it is shown where the answer has not its four bytes, and no order is said twice.
 #[tactic(auto, using(std::proofs::lemmas::Bool::Decides::nat_tests), unfolding(crate::specs::Lending::shown_rings))]
 fn shown_rings(rings: usize, answer: usize) -> usize
     ensures value { result ≡ shown_rings rings answer }
@@ -32,7 +32,7 @@ pub fn ww_rank(k: u64, m: u64, rings: &[u8], answer: &mut [u8]) -> u32
     code(answer_rank(k, m, rings, answer))
 }
 
-// Its outcome by name.
+// Lays out the number, if the ranker doesn't refuse.
 fn answer_rank(k: u64, m: u64, rings: &[u8], answer: &mut [u8]) -> Result<(), Refusal>
     ensures { RankCall k m rings.now answer.old (code result) answer.new }
 {
