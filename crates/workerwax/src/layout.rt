@@ -41,7 +41,9 @@ pub fn put_numbers<const WIDTH: usize, N: LowestFirst<WIDTH>>(out: &mut [u8], nu
     }
 }
 
-// Numbers out of a slice that has just their bytes.
+// Numbers out of a slice that has just their bytes: WIDTH are left for each number that is still to come, so that there is always a chunk.
+// With `as_chunks` no branch would have to say so. But it asks that WIDTH is not 0, and that an array of WIDTH bytes is no larger than memory:
+// a law more in the trait and in both impls, which is no plainer.
 pub fn take_numbers<const WIDTH: usize, N: LowestFirst<WIDTH>>(bytes: &[u8], numbers: &mut [N])
     requires { length bytes.now ≡ WIDTH * length numbers.old }
     ensures { numbers.new ≡ N.held bytes.now }
