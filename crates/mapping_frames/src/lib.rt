@@ -20,13 +20,14 @@ pub struct Frame {
     pub end: usize,
 }
 
-// The mapping frames that are left: the index of the next one, the switching counter before it, and where its bits start.
+// The mapping frames that are left: the index of the next one, the switching counter before it, and where its bits start. The fields are
+// public because `Going`, which a step asks for, speaks of them: whoever breaks them can take no step.
 #[derive(Clone, Copy)]
 pub struct Frames {
-    settings: Settings,
-    index: usize,
-    counter: u64,
-    start: usize,
+    pub settings: Settings,
+    pub index: usize,
+    pub counter: u64,
+    pub start: usize,
 }
 
 impl Frames {
