@@ -1,11 +1,12 @@
 // Reading one mapping frame.
-ghost use Rattle.std.specs.Prelude.{◌≡◌, ◌+◌, ◌-◌, ◌/◌, ◌%◌, ◌^◌, ◌≤◌, ◌<◌, length, get_or};
+ghost use Rattle.std.specs.Prelude.{cond, [], ◌∷◌, ◌≡◌, ◌+◌, ◌-◌, ◌/◌, ◌%◌, ◌^◌, ◌≤◌, ◌<◌, length, get_or, drop};
+ghost use Rattle.laws.specs.Put.{Put};
 ghost use Rattle.frame.specs.Reading.{symbol_read, symbol_bits, rings_read, bits_read, frame_read_turned};
 ghost use Rattle.frame.specs.Requires.{RingsFit, Readable};
 ghost use Rattle.frame.specs.Shape.{symbol_length};
 
 use crate::shape::Shape;
-use crate::symbol::{Symbol, lead};
+use crate::symbol::Symbol;
 use bits::{put_bit, put_digits};
 
 // The label at `at`.
@@ -66,20 +67,32 @@ fn symbol_read(q: usize, z: u64, four: &[u16]) -> Symbol
     }
 }
 
-// The bits of a symbol, into the part of the bit buffer that has just their room. `three` stands beside I3, as in the definition
-// `symbol_bits`: that of `symbol_read` has an I3 whether it is carried or not.
-fn put_symbol(symbol: Symbol, q: usize, three: bool, bits: &mut [u8])
-    requires { (symbol.i1 ≤ 1) × (symbol.i2 ≤ 1) × (symbol.i3 ≤ 1) × (length bits.old ≡ symbol_length q three) }
-    ensures { bits.new ≡ symbol_bits q three symbol }
+// I3, where the symbol carries it. It answers the position after it.
+fn put_third(x: u64, three: bool, bits: &mut [u8], at: usize) -> usize
+    requires { (x ≤ 1) × (at + cond three 1 0 ≤ length bits.old) }
+    ensures { Put (cond three (x ∷ []) []) bits.old bits.new at result }
 {
-    let lead = lead(three);
-    put_bit(symbol.i1, bits, 0);
-    put_bit(symbol.i2, bits, 1);
     if three {
-        put_bit(symbol.i3, bits, 2);
+        put_bit(x, bits, at);
+        at + 1
+    } else {
+        at
     }
-    put_digits(symbol.first, q, bits, lead);
-    put_digits(symbol.second, q, bits, lead + q);
+}
+
+// The bits of a symbol, from `at` on. It answers the position after them. The whole buffer with a place, and no part of it as the writer
+// lends: tried, and a data frame then took 3 % more instructions to read. `three` stands beside I3, as in the definition `symbol_bits`:
+// that of `symbol_read` has an I3 whether it is carried or not.
+fn put_symbol(symbol: Symbol, q: usize, three: bool, bits: &mut [u8], at: usize) -> usize
+    requires { (symbol.i1 ≤ 1) × (symbol.i2 ≤ 1) × (symbol.i3 ≤ 1) × (at + symbol_length q three ≤ length bits.old) }
+    ensures { Put (symbol_bits q three symbol) bits.old bits.new at result }
+{
+    put_bit(symbol.i1, bits, at);
+    put_bit(symbol.i2, bits, at + 1);
+    let next = put_third(symbol.i3, three, bits, at + 2);
+    put_digits(symbol.first, q, bits, next);
+    put_digits(symbol.second, q, bits, next + q);
+    next + 2 * q
 }
 
 // The bits of a frame out of its sixteen labels and the number of their rings, into the part of the bit buffer that is lent. It answers Z
@@ -94,11 +107,8 @@ pub fn read_frame(shape: Shape, number: u64, z: u64, labels: &[u16], bits: &mut 
     put_digits(number, at, bits, 0);
     let mut turned = z;
     for (j, four) in labels.chunks_exact(4).enumerate() {
-        let three = j < threes;
         let symbol = symbol_read(q, turned, four);
-        let next = at + lead(three) + 2 * q;
-        put_symbol(symbol, q, three, &mut bits[at..next]);
-        at = next;
+        at = put_symbol(symbol, q, j < threes, bits, at);
         turned = u64::from(four[2]);
     }
     turned

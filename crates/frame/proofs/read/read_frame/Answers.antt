@@ -2,23 +2,18 @@
 use mathlib.Core.List.{List}
 use borrow.Author.Rules.{rules}
 use mathlib.Core.Path.{◌≡◌, refl, ap, ◌∙◌}
-use Prim.Native.Nat.{ℕ, ◌+◌, ◌*◌, ◌-◌, ◌^◌, ◌≤◌, ◌<◌}
+use Prim.Native.Nat.{ℕ, ◌*◌, ◌^◌, ◌≤◌, ◌<◌}
 use native.Mathlib.Omega.{arith}
-use lib.ListN.{length, take, drop, length-drop}
-use lib.Seq.{get_or-drop, length-take-le}
-use Rattle.frame.specs.Reading.{symbol_read, symbol_bits, bits_read}
+use lib.ListN.{length, take, drop}
+use lib.Seq.{get_or-drop}
+use Rattle.frame.specs.Reading.{symbol_read, bits_read}
 use Rattle.frame.specs.Requires.{Readable}
-use Rattle.frame.specs.Shape.{symbol_length, frame_length}
+use Rattle.frame.specs.Shape.{frame_length}
 use Rattle.frame.specs.declared.shape.Shape.{Shape}
 use Rattle.frame.specs.declared.symbol.Symbol.{Symbol}
 use Rattle.frame.proofs.Fours.{symbol-four, four-long, four_is, turn_is, fours-next, four-more, fours_end}
 use Rattle.frame.proofs.ReadLoop.{read_none, symbol_room, read_more, read_all}
 use Rattle.frame.proofs.Sixteen.{FourInRange, four-in_range}
-use Rattle.frame.proofs.Symbols.{length-symbol_bits}
-use Rattle.laws.specs.Put.{Put}
-use Rattle.laws.proofs.Puts.{put_loan}
-use borrow.Rule.Slice.PartMut.{put_mid}
-use mathlib.Core.Bool.{Bool, cond}
 use Rattle.frame.proofs.read.read_frame.Goals as goal
 
 -- I1, I2 and I3 of labels in their ranges are bits
@@ -42,26 +37,6 @@ said_by :
     → four ≡ take 4 (drop (4 * j) labels)
     → symbol ≡ symbol_read q z (drop (4 * j) labels)
 said_by q z labels j is_read is_four = is_read ∙ (ap (symbol_read q z) is_four ∙ symbol-four (drop (4 * j) labels) q z 4 refl)
-
--- the part that is lent has just the room of the symbol
-part_long :
-    (bits : List ℕ) (at next n : ℕ) → next ≡ at + n → at + n ≤ length bits → length (take (next - at) (drop at bits)) ≡ n
-part_long bits at next n is-next room =
-    let e : next - at ≡ n = omega arith in
-    rw e (length-take-le n (drop at bits) (omega (arith, length-drop at bits)))
-
--- and its bits are put where it comes back
-part_back :
-    (q : ℕ) (three : Bool) (s : Symbol) (bits part : List ℕ) (at next : ℕ)
-    → part ≡ symbol_bits q three s → next ≡ at + symbol_length q three
-    → Put (symbol_bits q three s) bits (put_mid at (next - at) bits part) at next
-part_back q three s bits part at next is-part is-next =
-    let place : next ≡ at + length (symbol_bits q three s) = rw (length-symbol_bits q three s) is-next in
-    record { buffer = rw is-part (put_loan bits at next (symbol_bits q three s) place); place = place }
-
--- where it ends
-ends-at : (at lead q : ℕ) (three : Bool) → lead ≡ cond three 3 2 → at + lead + 2 * q ≡ at + symbol_length q three
-ends-at at lead q three is-lead = rw is-lead (omega arith)
 
 pub put_digits-requires : goal.put_digits-requires
 unfolding frame_length
@@ -97,27 +72,15 @@ symbol_read-symbol-requires c =
       rw (turn_is i.left _ c.in-Some.four c.next.new.self step) (here _ c.requires more).turn,
     )
 
-pub slice_bounds-put_symbol-end : goal.slice_bounds-put_symbol-end
-slice_bounds-put_symbol-end c =
+pub put_symbol-at-requires : goal.put_symbol-at-requires
+put_symbol-at-requires c =
     let i = c.loop-j.invariant in
     let step = c.in-Some.ensures.steps in
     let more = four-more i.left _ c.in-Some.four c.next.new.self step 4 c.requires.sixteen in
     let said = said_by c.args.shape.uncoded c.loop-j.turned c.args.labels.now _ c.symbol_read-symbol.ensures
     (four_is i.left _ c.in-Some.four c.next.new.self step) in
-    let ends = ends-at c.loop-j.at _ c.args.shape.uncoded _ (rw step.1 at c.lead.ensures) in
-    rw ends (symbol_room i.read more _ said)
-
-pub put_symbol-requires : goal.put_symbol-requires
-put_symbol-requires c =
-    let i = c.loop-j.invariant in
-    let step = c.in-Some.ensures.steps in
-    let more = four-more i.left _ c.in-Some.four c.next.new.self step 4 c.requires.sixteen in
-    let said = said_by c.args.shape.uncoded c.loop-j.turned c.args.labels.now _ c.symbol_read-symbol.ensures
-    (four_is i.left _ c.in-Some.four c.next.new.self step) in
-    let ends = ends-at c.loop-j.at _ c.args.shape.uncoded _ (rw step.1 at c.lead.ensures) in
     let f = binary _ c.loop-j.turned c.args.labels.now _ c.args.shape.uncoded (here _ c.requires more) in
-    let room = part_long c.loop-j.bits c.loop-j.at _ _ ends (symbol_room i.read more _ said) in
-    (rw said f.0, rw said f.1, rw said f.2, rw step.1 room)
+    rw (said, step.1) (f.0, f.1, f.2, symbol_room i.read more _ said)
 
 pub loop-j-preserved : goal.loop-j-preserved
 loop-j-preserved c =
@@ -126,14 +89,14 @@ loop-j-preserved c =
     let more = four-more i.left _ c.in-Some.four c.next.new.self step 4 c.requires.sixteen in
     let said = said_by c.args.shape.uncoded c.loop-j.turned c.args.labels.now _ c.symbol_read-symbol.ensures
     (four_is i.left _ c.in-Some.four c.next.new.self step) in
-    let ends = ends-at c.loop-j.at _ c.args.shape.uncoded _ (rw step.1 at c.lead.ensures) in
-    let put = part_back c.args.shape.uncoded _ _ c.loop-j.bits _ c.loop-j.at _ (rw step.1 at c.put_symbol.ensures) ends in
     let turn = c.from-turned.ensures ∙ turn_is i.left _ c.in-Some.four c.next.new.self step in
     record {
       going = c.in-Some.ensures.goes.keeps;
       ends = tt;
       left = fours-next i.left _ c.in-Some.four c.next.new.self step;
-      read = rw step.2 (read_more i.read more _ said _ _ _ put turn (rw turn (here _ c.requires more).turn));
+      read =
+          rw step.2
+          (read_more i.read more _ said _ _ _ (rw step.1 at c.put_symbol-at.ensures) turn (rw turn (here _ c.requires more).turn));
     }
 
 pub returns : goal.returns
