@@ -23,8 +23,9 @@ pub fn all_bits(bits: &[u8]) -> bool
     good
 }
 
-// The number that n bits are, from `at` on: a place and a count, and no slice, since the contracts above and the rows of a table have both.
-// `Bits` stays a `requires` here and above, and no type of lists of bits: the definitions speak of any list, and callers lend plain bytes.
+// The number that n bits are, from `at` on. This and the two that follow take a place and no slice: that is their contract, docs/ARCHITECTURE.md
+// names them, and a field of a table has a place and a width. `Bits` stays a `requires` here and above, and no type of lists of bits: the
+// definitions speak of any list, and callers lend plain bytes.
 pub fn value_at(bits: &[u8], at: usize, n: usize) -> u64
     requires { (at + n ≤ length bits.now) × (n ≤ 31) × Bits bits.now }
     ensures { result ≡ value (take n (drop at bits.now)) }

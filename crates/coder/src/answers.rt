@@ -5,8 +5,8 @@ ghost use Rattle.coder.specs.Answers.{exact, answered, coded};
 use crate::states::{Coded, Moved, State};
 use line::Settings;
 
-// As many bytes as the user has bits, and 16·P labels. That P is at most 16 is asked here, since `done` below and `values` of `line` take
-// any settings, and an invariant of `Settings` would leave them fewer.
+// As many bytes as the user has bits, and 16·P labels. That P is at most 16 is asked here and is no invariant of `Settings`: the
+// definition `settings_of` makes settings of any numbers.
 pub fn is_exact(c: Settings, bits: usize, labels: usize) -> bool
     requires { c.frames ≤ 16 }
     ensures { result ≡ exact c bits labels }

@@ -8,7 +8,8 @@ ghost use Rattle.counts.specs.Rows.{at, Known};
 use crate::ring_count::RingCount;
 use crate::rows::Counts;
 
-// How many pairs weigh less than n, for n = 0 to 69. By place, since each sum needs the one before it.
+// How many pairs weigh less than n, for n = 0 to 69. By place, since each sum needs the one before it: an iterator over the sums would have
+// to carry that beside it.
 fn pair_sums(pairs: &[u64; 69]) -> [u64; 70]
     requires { (p : ℕ) → at pairs.now p ≤ 18 }
     ensures { (n : ℕ) → n ≤ 69 → at result n ≡ sum (at pairs.now) n }
@@ -20,7 +21,7 @@ fn pair_sums(pairs: &[u64; 69]) -> [u64; 70]
     sums
 }
 
-// How many pairs weigh less than n − k; none where k is more than n. By `saturating_sub`, since the first sum is none, it is slower.
+// How many pairs weigh less than n − k; none where k is more than n. Tried by `saturating_sub`, as the first sum is 0: slower.
 fn lighter_pairs(sums: &[u64; 70], n: usize, k: usize) -> u64
     requires n_bound { n ≤ 69 }
     requires none { at sums.now 0 ≡ 0 }
@@ -37,7 +38,7 @@ impl RingCount {
         self.m.saturating_sub(p.abs_diff(self.m - 1))
     }
 
-    // Pairs by the formula: none weighs more than 2(m − 1). By `array::from_fn` it is slower.
+    // Pairs by the formula: none weighs more than 2(m − 1). Tried by `array::from_fn`: slower.
     fn pair_row(self) -> [u64; 69]
         ensures { at result ≡ g2 self.m }
     {

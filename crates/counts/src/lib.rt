@@ -4,7 +4,7 @@
 // lighter than each weight. `locate` and `locate_weight` find where a number lies among running sums, and `lighter_sum` gives such a sum.
 // How does it work? Pairs go by the formula, fours one after the other by sums of pairs, and the lighter eights come from a table of
 // 1,242 numbers, whose one reader is `lighter_row`. It is done once for an M; `rings` then goes by the rows. Among sums of products a
-// place is sought from 0 up, and each trial takes one product off; among the lighter eights by halving.
+// place is sought from 0 up: among sums of products each trial takes one product off, and among the lighter eights it is one comparison.
 #![tactic(auto)]
 
 pub mod counts;

@@ -43,8 +43,8 @@ pub fn locate(row: &[u64], t: usize, r: u64) -> Located
 }
 
 // The largest place up to `top` where a row of running sums is at most s, and s less that sum. Candidates are tried from 0 up, one comparison
-// each: halving would find the place in fewer, but then how many a mapping passes over could not be told from the set. By place, since the
-// row is read at a + 1 and at a, and a is answered.
+// each: halving would find the place in fewer, but then how many a mapping passes over could not be told from the set (docs/DECISIONS.md,
+// "Candidates are tried from 0 up"). By place, since the row is read at a + 1 and at a, and a is answered.
 pub fn locate_weight(row: &[u64], top: usize, s: u64) -> Located
     requires { Ascending row.now top s }
     ensures { result ≡ located_of (at row.now) s top }

@@ -24,7 +24,7 @@ pub fn all_hold(picture: &[u8], bits: &[u8]) -> bool
         .all(|(place, bit)| holds(*place, *bit))
 }
 
-// The sequence around a body. `bits[i]`: of a slice that is written through an iterator a proof knows the length alone. The body is taken by
+// The sequence around a body. `bits[i]`, since of what a zip with `iter_mut` writes a proof knows nothing. The body is taken by
 // a count of the free places so far: `next` of an iterator over it would answer an `Option`, whose `None` the lengths rule out.
 pub fn put_around(picture: &[u8], body: &[u8], bits: &mut [u8])
     requires { (length bits.old ≡ length picture.now) × (length body.now ≡ free picture.now) }

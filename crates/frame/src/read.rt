@@ -9,7 +9,7 @@ use crate::shape::Shape;
 use crate::symbol::Symbol;
 use bits::{put_bit, put_digits};
 
-// The label at `at`.
+// The label at `at`: a place, which is its contract, and docs/ARCHITECTURE.md names it.
 pub fn label_at(labels: &[u16], at: usize) -> u64
     requires { at < length labels.now }
     ensures { result ≡ get_or labels.now at 0 }
@@ -17,7 +17,7 @@ pub fn label_at(labels: &[u16], at: usize) -> u64
     u64::from(labels[at])
 }
 
-// The ring of the label at `at`.
+// The ring of the label at `at`, by place as `label_at`.
 fn ring_at(q: usize, labels: &[u16], at: usize) -> u8
     requires { (at < length labels.now) × (q ≤ 5) × (get_or labels.now at 0 / 2 ^ q < 256) }
     ensures { result ≡ get_or labels.now at 0 / 2 ^ q }
@@ -67,7 +67,7 @@ fn symbol_read(q: usize, z: u64, four: &[u16]) -> Symbol
     }
 }
 
-// I3, where the symbol carries it. It answers the position after it.
+// I3, where the symbol carries it. It answers the position after it, as `put_symbol` needs it.
 fn put_third(x: u64, three: bool, bits: &mut [u8], at: usize) -> usize
     requires { (x ≤ 1) × (at + cond three 1 0 ≤ length bits.old) }
     ensures { Put (cond three (x ∷ []) []) bits.old bits.new at result }

@@ -12,7 +12,8 @@ fn bits_of(bytes: &[u8; 9]) -> [u8; 72] {
     bits
 }
 
-// A part of them. All six of `cases` lie within and are bits; one that did not would print no line, where the expected output has six.
+// A part of them: where it begins and ends is printed. All six of `cases` lie within and are bits; one that did not would print no line, where
+// the expected output has six.
 fn part(rt: &impl Print, bits: &[u8; 72], from: usize, to: usize) -> io::Result<()> {
     let Some(check) = bits.get(from..to).and_then(tested_crc) else {
         return Ok(());

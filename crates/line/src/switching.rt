@@ -2,7 +2,8 @@
 ghost use Rattle.std.specs.Prelude.{◌≡◌, ◌≤◌, ◌<◌};
 ghost use Rattle.line.specs.Switching.{is_high, counter_after};
 
-// Whether a mapping frame is high, and the counter after it: each says something of every frame, so that no variant leaves one out.
+// Whether a mapping frame is high, and the counter after it. Both mean something in every frame, so that an enum would have the counter in each
+// variant.
 #[derive(Clone, Copy)]
 pub struct Turn {
     pub high: bool,

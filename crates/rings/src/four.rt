@@ -9,7 +9,7 @@ use crate::pair::{PairOfRings, pair_at, place_of_pair};
 use counts::{Counts, lighter_sum, locate};
 
 // A pair is found by its place alone and a four by counts of pairs, so one generic type for both would share the names of its fields and
-// nothing else.
+// `weight`, and nothing else.
 #[derive(Clone, Copy)]
 pub struct FourRings {
     pub first: PairOfRings,

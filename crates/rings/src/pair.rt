@@ -21,8 +21,8 @@ impl PairOfRings {
     }
 }
 
-// The pair of sum t at place e. Here and in `place_of_pair` M is a number: their contracts ask `Known m` of one, and a struct would ask more
-// of callers.
+// The pair of sum t at place e. Here and in `place_of_pair` M is a number, of which their contracts, which docs/ARCHITECTURE.md names, ask
+// `Known m`.
 pub fn pair_at(m: u64, t: u64, e: u64) -> PairOfRings
     requires known { Known m }
     requires e_bound { e < g2 m t }

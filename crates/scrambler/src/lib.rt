@@ -26,8 +26,8 @@ pub fn through(role: u64, register: u64, bit: u64) -> u64
     (bit + near % 2 + far % 2) % 2
 }
 
-// The register after one more scrambled bit. That a register is below 2^23 stays a `requires`, and role and register stay two numbers: the
-// definitions speak of any role and any number, and a type would ask more of the callers.
+// The register after one more scrambled bit. That a register is below 2^23 stays a `requires`, and role and register stay two numbers:
+// `scrambled_bit` and `push` speak of any role and any number.
 #[tactic(auto, unfolding(crate::specs::Scrambler::push))]
 pub fn pushed(register: u64, bit: u64) -> u64
     requires { (register < 2 ^ 23) × (bit ≤ 1) }

@@ -12,7 +12,7 @@ use coder::State;
 use refusals::{Refusal, code};
 
 // N P b r K q M L of the settings that are asked for. That the settings are taken by `let else` here, in the call itself, is a rule of the
-// project (docs/DECISIONS.md), so that each way out gives its number.
+// project (docs/DECISIONS.md, "Settings are taken by let else").
 #[tactic(auto, using(std::proofs::lemmas::Bool::Decides::nat_tests, refusals::proofs::Once::numbered), unfolding(laws::specs::Choice::refusal))]
 pub fn ww_parameters(role: u64, s: u64, n: u64, shaping: u64, mark: u64, answer: &mut [u8]) -> u32
     ensures { ParametersCall (worked_of (asked role s n shaping mark)) answer.old result answer.new }
@@ -28,8 +28,8 @@ pub fn ww_parameters(role: u64, s: u64, n: u64, shaping: u64, mark: u64, answer:
     0
 }
 
-// The numbers of a state. It is no `From`: `State` is crate `coder`'s and arrays are std's, so that the orphan rule bars the impl here.
-// `coded_numbers` and `answer_numbers` are no `From` for the same reason.
+// The numbers of a state. Their order is the C interface's (docs/INTERFACE.md), so this is no `From` of crate `coder`, and the orphan rule bars
+// one here. Nor are `coded_numbers` and `answer_numbers`.
 pub(crate) fn numbers_of(st: State) -> [u64; 7]
     ensures { result ≡ state_numbers st }
 {
