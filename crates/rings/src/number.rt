@@ -40,9 +40,15 @@ pub fn rings_of(counts: &Counts, s: u64) -> [u8; 8]
     ensures { result ≡ as_list (rings_of counts.now.m s) }
 {
     let halves = halves_of(counts, s);
-    let front = four_at(counts, halves.first_weight, halves.first_place);
+    let front = four_at(
+        counts.m,
+        &counts.pairs,
+        halves.first_weight,
+        halves.first_place,
+    );
     let back = four_at(
-        counts,
+        counts.m,
+        &counts.pairs,
         halves.weight - halves.first_weight,
         halves.second_place,
     );
@@ -61,7 +67,7 @@ pub fn number_of(counts: &Counts, rings: &[u8; 8]) -> u64
     let back = FourRings::from([m5, m6, m7, m8]);
     let b = front.weight();
     let a = b + back.weight();
-    let first = place_of_four(counts, front);
-    let second = place_of_four(counts, back);
+    let first = place_of_four(counts.m, &counts.pairs, front);
+    let second = place_of_four(counts.m, &counts.pairs, back);
     counts.lighter[a] + (lighter_sum(&counts.fours, a, b) + (second * counts.fours[b] + first))
 }

@@ -11,13 +11,13 @@ use Rattle.counts.specs.declared.rows.Counts.{Counts}
 use Rattle.rings.proofs.Eights.{weights_inside, parts-fit, number_fits_lem, number-whole, summable8}
 use Rattle.rings.proofs.number.number_of.Goals as goal
 
-pub place_of_four-first-requires : goal.place_of_four-first-requires
+pub place_of_four-first-requires-clause-below4 : goal.place_of_four-first-requires-clause-below4
 unfolding of_list
-place_of_four-first-requires c = subst (Below4 c.args.counts.now.m) (sym c.from-front.ensures) c.requires.0
+place_of_four-first-requires-clause-below4 c = subst (Below4 c.args.counts.now.m) (sym c.from-front.ensures) c.requires.0
 
-pub place_of_four-second-requires : goal.place_of_four-second-requires
+pub place_of_four-second-requires-clause-below4 : goal.place_of_four-second-requires-clause-below4
 unfolding of_list
-place_of_four-second-requires c = subst (Below4 c.args.counts.now.m) (sym c.from-back.ensures) c.requires.1
+place_of_four-second-requires-clause-below4 c = subst (Below4 c.args.counts.now.m) (sym c.from-back.ensures) c.requires.1
 
 pub bounds-counts-a : goal.bounds-counts-a
 unfolding of_list

@@ -11,14 +11,14 @@ use Rattle.rings.proofs.number.rings_of.Goals as goal
 known : (m s : ℕ) (below : s < m ^ 8) (h : Halves) → h ≡ halves_of m s → Halfway m s below h
 known m s below h found = subst (Halfway m s below) (sym found) (halfway m s below)
 
-pub four_at-front-requires : goal.four_at-front-requires
-four_at-front-requires c = (known _ _ c.requires _ c.halves_of-halves.ensures).first
+pub four_at-front-requires-clause-i_bound : goal.four_at-front-requires-clause-i_bound
+four_at-front-requires-clause-i_bound c = (known _ _ c.requires _ c.halves_of-halves.ensures).first
 
 pub overflow_sub-halves : goal.overflow_sub-halves
 overflow_sub-halves c = (known _ _ c.requires _ c.halves_of-halves.ensures).within
 
-pub four_at-back-requires : goal.four_at-back-requires
-four_at-back-requires c = (known _ _ c.requires _ c.halves_of-halves.ensures).second
+pub four_at-back-requires-clause-i_bound : goal.four_at-back-requires-clause-i_bound
+four_at-back-requires-clause-i_bound c = (known _ _ c.requires _ c.halves_of-halves.ensures).second
 
 pub returns : goal.returns
 returns c =
