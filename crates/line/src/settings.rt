@@ -9,7 +9,7 @@ ghost use Rattle.line.specs.Worked.{Accepted, told};
 use crate::asked::Asked;
 use crate::numbers::{bits_of, high_of, points_of, shell_of, step_of, uncoded_of};
 use crate::rate::SymbolRate;
-use crate::shells::{EXPANDED, MINIMUM};
+use crate::shells::{expanded_rings, minimum_rings};
 use refusals::Refusal;
 
 // The kind of shaping, holding its ring count M.
@@ -84,8 +84,8 @@ fn shaping_of(shaping: u64, k: u64) -> Shaping
     ensures { result ≡ shaping_of shaping k }
 {
     match shaping {
-        0 => Shaping::Minimum(MINIMUM[k as usize]),
-        _ => Shaping::Expanded(EXPANDED[k as usize]),
+        0 => Shaping::Minimum(minimum_rings(k)),
+        _ => Shaping::Expanded(expanded_rings(k)),
     }
 }
 

@@ -1,7 +1,9 @@
 // The ring counts of the two shapings, by K.
+ghost use Rattle.std.specs.Prelude.{◌≡◌, ◌<◌};
+ghost use Rattle.line.specs.Numbers.{minimum_of, expanded_of};
 
 // The smallest M with M^8 at least 2^K, for K = 0 to 31.
-pub(crate) const MINIMUM: [u64; 32] = [
+const MINIMUM: [u64; 32] = [
     1, // 2^(0/8)
     2, // 2^(1/8)
     2, // 2^(2/8)
@@ -37,7 +39,7 @@ pub(crate) const MINIMUM: [u64; 32] = [
 ];
 
 // The whole number nearest to 1.25·2^(K/8), or the minimum where that is smaller, for K = 0 to 31.
-pub(crate) const EXPANDED: [u64; 32] = [
+const EXPANDED: [u64; 32] = [
     1, // 1.25·2^(0/8)
     2, // 1.25·2^(1/8)
     2, // 1.25·2^(2/8)
@@ -71,3 +73,19 @@ pub(crate) const EXPANDED: [u64; 32] = [
     17, // 1.25·2^(30/8)
     18, // 1.25·2^(31/8)
 ];
+
+// Minimum M.
+pub fn minimum_rings(k: u64) -> u64
+    requires { k < 32 }
+    ensures { result ≡ minimum_of k }
+{
+    MINIMUM[k as usize]
+}
+
+// Expanded M.
+pub fn expanded_rings(k: u64) -> u64
+    requires { k < 32 }
+    ensures { result ≡ expanded_of k }
+{
+    EXPANDED[k as usize]
+}
