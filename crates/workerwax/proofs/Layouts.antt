@@ -1,14 +1,14 @@
 -- Numbers and labels put into bytes one after the other, and taken out of bytes: what each step adds to what is done, and that what is
 -- done and what is left make the whole. Assumes nothing.
 use mathlib.Core.List.{List, [], ◌∷◌, ◌++◌, append_assoc, append-nil}
-use mathlib.Core.Path.{◌≡◌, refl, sym, ap, ◌∙◌}
-use Prim.Native.Nat.{ℕ, suc, ◌+◌, ◌*◌, ◌≤◌, ◌<◌}
+use mathlib.Core.Path.{◌≡◌, refl, sym, ap, ap₂, ◌∙◌}
+use Prim.Native.Nat.{ℕ, suc, ◌+◌, ◌*◌, ◌-◌, ◌≤◌, ◌<◌}
 use native.Mathlib.Nat.{mul-le-mul_left}
 use native.Mathlib.Numerals.{add-one}
 use native.Mathlib.Omega.{arith}
 use lib.ListN.{length, take, drop, get_or, set, length-append}
-use lib.Seq.{take-suc-set, drop-cons}
-use borrow.Rule.Slice.PartMut.{put_mid}
+use lib.Seq.{take-suc, take-suc-set, drop-cons, take_at, drop-length}
+use borrow.Rule.Slice.PartMut.{put_mid, post_of, Post-is}
 use Rattle.std.proofs.lemmas.Slice.{take-put_mid}
 use Rattle.workerwax.specs.Layout.{word, words}
 
@@ -58,7 +58,23 @@ pub words_one : (n : ℕ) → words (n ∷ []) ≡ word n
 unfolding words
 words_one n = append-nil (word n)
 
+-- the words of one number more
+pub words_more : (ns : List ℕ) (i : ℕ) → i < length ns → words (take (i + 1) ns) ≡ words (take i ns) ++ word (get_or ns i 0)
+words_more ns i h =
+    ap words (rw add-one (take-suc ns i 0 h))
+    ∙ (words_append (take i ns) (get_or ns i 0 ∷ []) ∙ ap (λ (l : List ℕ). words (take i ns) ++ l) (words_one (get_or ns i 0)))
+
 pub length-words : (ns : List ℕ) → length (words ns) ≡ 4 * length ns
 unfolding words
 length-words [] = refl
 length-words (n ∷ ns) = omega (arith, length-append (word n) (words ns), length-word n, length-words ns)
+
+-- A part put behind the front makes both.
+pub two_parts :
+    (k : ℕ) (front rest back : List ℕ) → length front ≡ k
+    → put_mid k (length (front ++ rest) - k) (front ++ rest) back ≡ front ++ back
+two_parts k front rest back e =
+    let all = front ++ rest in
+    let within : k ≤ length all = omega (arith, length-append front rest) in
+    let none : post_of k (length all - k) all ≡ [] = Post-is k (length all) all within ∙ drop-length all in
+    ap₂ (λ (f b : List ℕ). f ++ (back ++ b)) (take_at front rest k e) none ∙ ap (λ (b : List ℕ). front ++ b) (append-nil back)
