@@ -2,6 +2,7 @@
 // power: a bit moves it up by one place and, where the bit and the one that leaves differ, adds x^12 + x^5 + 1, 4129.
 ghost use Rattle.std.specs.Prelude.{List, ℕ, ◌≡◌, ◌-◌, ◌≤◌, ◌<◌, length, take};
 ghost use Rattle.std.specs.Iterator.{Drains, IsFinite};
+ghost use Rattle.laws.specs.Put.{put};
 ghost use Rattle.bits.specs.Digits.{Bits};
 ghost use Rattle.sequences.specs.Picture.{inside};
 ghost use Rattle.sequences.specs.Register.{step, crc};
@@ -56,12 +57,13 @@ pub(crate) fn crc_inside(picture: &[u8], bits: &[u8]) -> u64
     )
 }
 
-// The sixteen bits of a check, highest power first.
+// The sixteen bits of a check, highest power first, from the front on. Where there is room for these alone, they are the whole.
 pub fn put_crc(crc: u64, bits: &mut [u8])
-    requires { length bits.old ≡ 16 }
-    ensures { bits.new ≡ high_digits 16 crc }
+    requires { 16 ≤ length bits.old }
+    ensures front { bits.new ≡ put bits.old 0 (high_digits 16 crc) }
+    ensures whole { length bits.old ≡ 16 → bits.new ≡ high_digits 16 crc }
 {
-    for (i, bit) in bits.iter_mut().enumerate() {
+    for (i, bit) in bits[..16].iter_mut().enumerate() {
         *bit = (crc >> (15 - i) & 1) as u8;
     }
 }

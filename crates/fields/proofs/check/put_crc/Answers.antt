@@ -1,5 +1,5 @@
 -- `fields::check::put_crc` meets its contract.
-use Rattle.std.proofs.Common.{◌≡◌, ◌+◌, ◌-◌, ◌/◌, ◌%◌, ◌^◌, ◌<◌, ◌≤◌, ℕ, List, bit_and, sym, ap, ◌∙◌, length, arith}
+use Rattle.std.proofs.Common.{◌≡◌, ◌+◌, ◌-◌, ◌/◌, ◌%◌, ◌^◌, ◌<◌, ◌≤◌, ◌++◌, ℕ, List, bit_and, sym, ap, ap₂, ◌∙◌, length, drop, length-take, length-drop, arith}
 use Rattle.std.proofs.Math.ListN.{set, length-set}
 use Rattle.std.proofs.lemmas.Nat.{and_mask}
 use Rattle.laws.specs.Put.{put}
@@ -20,16 +20,30 @@ one_more bits crc i h long =
     rw (bit, high_digits-next 16 i crc h)
     (put_first bits i (crc / 2 ^ (16 - (i + 1)) % 2) (high_digits (16 - (i + 1)) crc) (omega arith))
 
+-- by lengths alone, whichever places are lent
 pub loop-i-init : goal.loop-i-init
-loop-i-init c = (c.requires, put-over c.args.bits.now (high_digits 16 c.args.crc) (c.requires ∙ sym (length-high_digits 16 c.args.crc)))
+loop-i-init c = (
+  grind (arith, length-take, length-drop),
+  put-over _ (high_digits 16 c.args.crc) (grind (arith, length-take, length-drop, length-high_digits 16 c.args.crc)),
+)
 
 pub loop-i-preserved : goal.loop-i-preserved
 loop-i-preserved c =
     let v = c.loop-i.invariant in
-    (simp length-set v.0, one_more c.loop-i.bits c.args.crc c.loop-i.i (omega (arith, c.requires)) v.0 ∙ v.1)
+    (simp length-set v.0, one_more c.loop-i.bit-items c.args.crc c.loop-i.i (omega (arith, v.0)) v.0 ∙ v.1)
 
-pub returns : goal.returns
-returns c =
+pub returns-clause-front : goal.returns-clause-front
+returns-clause-front c =
+    let crc = c.args.crc in
     let i = c.loop-i.i in
-    let none : 16 ≤ i = omega (arith, c.requires) in
-    sym (put-nothing c.loop-i.bits i) ∙ (rw (high_digits_none 16 i c.args.crc none) at c.loop-i.invariant.1)
+    let items = c.loop-i.bit-items in
+    let none : 16 ≤ i = omega (arith, c.loop-i.invariant.0) in
+    let all : items ≡ high_digits 16 crc = sym (put-nothing items i) ∙ (rw (high_digits_none 16 i crc none) at c.loop-i.invariant.1) in
+    let behind : 16 ≡ 0 + length (high_digits 16 crc) = omega (arith, length-high_digits 16 crc) in
+    ap₂ (λ (front : List ℕ) (n : ℕ). front ++ drop n c.args.bits.now) all behind
+
+pub returns-clause-whole : goal.returns-clause-whole
+returns-clause-whole c =
+    λ long.
+    returns-clause-front c
+    ∙ put-over c.args.bits.now (high_digits 16 c.args.crc) (long ∙ sym (length-high_digits 16 c.args.crc))

@@ -5,4 +5,4 @@ use Rattle.fields.specs.Weights.{high_digits}
 use Rattle.fields.proofs.check.put_crc.Given as goal
 
 abbrev pub invariant-loop-i : goal.invariant-loop-i
-invariant-loop-i l = (length l.bits ≡ 16) × (put l.bits l.i (high_digits (16 - l.i) l.crc) ≡ high_digits 16 l.crc)
+invariant-loop-i l = (length l.bit-items ≡ 16) × (put l.bit-items l.i (high_digits (16 - l.i) l.crc) ≡ high_digits 16 l.crc)
