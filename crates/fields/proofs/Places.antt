@@ -11,8 +11,8 @@ use borrow.Author.Tests.{eq-eqb, ne_eqb}
 use Rattle.std.specs.List.{list_all, zip}
 use Rattle.laws.specs.Put.{put}
 use Rattle.laws.proofs.Puts.{put-nothing, put_first, put_whole}
-use Rattle.sequences.specs.Picture.{is_free, holds, free, around, all_hold}
-use Rattle.sequences.proofs.Pictures.{length-around}
+use Rattle.sequences.specs.Picture.{is_free, holds, free, inside, around, all_hold}
+use Rattle.sequences.proofs.Pictures.{length-inside, length-around}
 
 -- what stands at a place and behind it
 pub at_place : (l : List ℕ) (i : ℕ) → i < length l → drop i l ≡ get_or l i 0 ∷ drop (i + 1) l
@@ -47,6 +47,18 @@ module _ (picture : List ℕ) (i : ℕ) where
   unfolding free
   free-next h = ap free (at_place picture i h)
 
+  module _ (bits : List ℕ) where
+    inside-next :
+        i < length picture → i < length bits
+        → inside (drop i picture) (drop i bits)
+        ≡ cond (is_free place_at) (get_or bits i 0 ∷ inside later (drop (i + 1) bits)) (inside later (drop (i + 1) bits))
+    unfolding inside
+    inside-next h k = ap₂ inside (at_place picture i h) (at_place bits i k)
+
+    inside_none : length picture ≤ i → inside (drop i picture) (drop i bits) ≡ []
+    unfolding inside
+    inside_none h = ap (λ (p : List ℕ). inside p (drop i bits)) (drop_of_length-le picture h)
+
   module _ (body : List ℕ) (k : ℕ) where
     around-next :
         i < length picture
@@ -68,6 +80,63 @@ module _ (picture : List ℕ) (i : ℕ) where
 
   fixed-here : i < length picture → (place_at ≡ 46 → ⊥) → free (drop i picture) ≡ free later
   fixed-here h e = free-next h ∙ ap (λ (v : Bool). cond v (suc (free later)) (free later)) (ne_eqb place_at 46 e)
+
+-- The invariant of `take_inside` at place i, k bits being taken: once what stands in the free places from i on is put, what stands in all
+-- of them is.
+pub record Gathered (picture bits body₀ body : List ℕ) (k i : ℕ) : Type 0 where
+  pub up_to : i ≤ length picture
+  pub room : length body₀ ≡ free picture
+  pub same : length body ≡ length body₀
+  pub place : k + free (drop i picture) ≡ free picture
+  pub list : put body k (inside (drop i picture) (drop i bits)) ≡ put body₀ 0 (inside picture bits)
+
+pub gathered_none : (picture bits body : List ℕ) → length body ≡ free picture → Gathered picture bits body body 0 0
+gathered_none picture bits body h = record { up_to = omega arith; room = h; same = refl; place = omega arith; list = refl }
+
+module _ (picture bits body₀ body : List ℕ) (k i : ℕ)
+    (t : Gathered picture bits body₀ body k i)
+    (lengths : length bits ≡ length picture) where
+  module _ (h : i < length picture) where
+    abbrev bit : ℕ
+    bit = get_or bits i 0
+
+    abbrev left : List ℕ
+    left = inside (drop (i + 1) picture) (drop (i + 1) bits)
+
+    -- what stands in the places that are left, where place i is free or not
+    abbrev inside-from : Bool → List ℕ
+    inside-from v = cond v (bit ∷ left) left
+
+    pub gathered_room : get_or picture i 0 ≡ 46 → k < length body
+    gathered_room e = omega (arith, free-here picture i h e, t.place, t.room, t.same)
+
+    pub gathered_free : get_or picture i 0 ≡ 46 → Gathered picture bits body₀ (set body k (get_or bits i 0)) (k + 1) (i + 1)
+    gathered_free e =
+        let here = inside-next picture i bits h (omega arith) ∙ ap inside-from (eq-eqb (place_at picture i) 46 e) in
+        record {
+          up_to = omega arith;
+          room = t.room;
+          same = length-set body k bit ∙ t.same;
+          place = omega (arith, free-here picture i h e, t.place);
+          list = put_first body k bit left (gathered_room e) ∙ (ap (put body k) (sym here) ∙ t.list);
+        }
+
+    pub gathered_fixed : (get_or picture i 0 ≡ 46 → ⊥) → Gathered picture bits body₀ body k (i + 1)
+    gathered_fixed e =
+        let here = inside-next picture i bits h (omega arith) ∙ ap inside-from (ne_eqb (place_at picture i) 46 e) in
+        record {
+          up_to = omega arith;
+          room = t.room;
+          same = t.same;
+          place = omega (arith, fixed-here picture i h e, t.place);
+          list = ap (put body k) (sym here) ∙ t.list;
+        }
+
+  pub gathered_all : length picture ≤ i → body ≡ inside picture bits
+  gathered_all h =
+      sym (put-nothing body k)
+      ∙ (ap (put body k) (sym (inside_none picture i bits h))
+      ∙ (t.list ∙ put-over body₀ (inside picture bits) (t.room ∙ sym (length-inside picture bits lengths))))
 
 -- The invariant of `put_around` at place i, k bits being used: once what belongs into the places from i on is put, the whole sequence is.
 pub record Framed (picture body bits₀ bits : List ℕ) (k i : ℕ) : Type 0 where

@@ -1,6 +1,6 @@
 // The picture of a sequence: a character to a place, `0` or `1` where the place always holds that bit, and `.` where it is free.
 ghost use Rattle.std.specs.Prelude.{◌≡◌, length};
-ghost use Rattle.sequences.specs.Picture.{free, around, holds, all_hold};
+ghost use Rattle.sequences.specs.Picture.{free, inside, around, holds, all_hold};
 
 // A place that is free.
 pub const FREE: u8 = b'.';
@@ -22,6 +22,20 @@ pub fn all_hold(picture: &[u8], bits: &[u8]) -> bool
         .iter()
         .zip(bits)
         .all(|(place, bit)| holds(*place, *bit))
+}
+
+// What stands in the free places, into a body that has just room for it. The body is filled by a count of the free places so far, as below.
+pub fn take_inside(picture: &[u8], bits: &[u8], body: &mut [u8])
+    requires { (length bits.now ≡ length picture.now) × (length body.old ≡ free picture.now) }
+    ensures { body.new ≡ inside picture.now bits.now }
+{
+    let mut k = 0;
+    for (i, place) in picture.iter().enumerate() {
+        if *place == FREE {
+            body[k] = bits[i];
+            k += 1;
+        }
+    }
 }
 
 // The sequence around a body. `bits[i]`, since of what a zip with `iter_mut` writes a proof knows nothing. The body is taken by
