@@ -30,7 +30,7 @@ use Rattle.fields.specs.Weights.{high_value}
 use Rattle.fields.proofs.Weights.{high_value_one, high_value-zeros}
 
 -- the fields of a table that is laid stand within the picture
-within-laid :
+pub within-laid :
     (at : ℕ) (picture : List ℕ) (table : List Field)
     → is_laid at picture table ≡ true → is_narrow table ≡ true → Within (length picture) table
 unfolding is_narrow
