@@ -25,7 +25,7 @@ use Rattle.sequences.proofs.Registers.{length-crc, bits-crc}
 use Rattle.sequences.proofs.Sequences.{whole, unsealed, sealed-leaves-zero, only-sealed-leaves-zero}
 use Rattle.sequences.proofs.Tables.{laid, length-field_bits, bits-field_bits}
 use Rattle.sequences.proofs.Trips.{answer-zeros}
-use Rattle.fields.specs.Requires.{is_narrow, Within}
+use Rattle.fields.specs.Requires.{is_narrow, Within, ReadBy}
 use Rattle.fields.specs.Weights.{high_value}
 use Rattle.fields.proofs.Weights.{high_value_one, high_value-zeros}
 
@@ -69,7 +69,12 @@ module _ (s : Sequence) (test : is_whole s ≡ true) (bits : List ℕ) (long : l
         unsealed (bit_count s.table) body
         (λ e. h (ap high_value (sealed-leaves-zero (bit_count s.table) body e) ∙ high_value-zeros 16))
 
--- a refused reader tells zeros, one for each of the n fields
+-- a refused reader over slices says nothing of the numbers
+pub unread :
+    (s : Sequence) (bits : List ℕ) (r : ℕ) (numbers : List ℕ) → 1 ≤ r → fields_refusal s bits ≡ r → ReadBy s.picture s.table bits r numbers
+unread s bits r numbers some e = record { number = sym e; fields = λ z. absurd (omega arith) }
+
+-- and that of a layout tells zeros, one for each of the n fields
 pub refused :
     (s : Sequence) (n : ℕ) (bits : List ℕ) (r : ℕ)
     → length s.table ≡ n → 1 ≤ r → fields_refusal s bits ≡ r → FieldsAnswer s bits r (replicate n 0)
