@@ -6,7 +6,7 @@ ghost use Rattle.counts.specs.Counts.{CountsOf};
 ghost use Rattle.counts.specs.Rows.{at, Known};
 
 use crate::ring_count::RingCount;
-use crate::rows::Counts;
+pub use crate::rows::Counts;
 
 // How many pairs weigh less than n, for n = 0 to 69. By place, since each sum needs the one before it: an iterator over the sums would have
 // to carry that beside it.
