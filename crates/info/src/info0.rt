@@ -29,9 +29,9 @@ const TABLE: [Field; 14] = [
     field!(28, 1, 0..=1), // acknowledgement
 ];
 
-const INFO0: Layout<49, 14, 33> = Layout {
-    picture: PICTURE,
-    table: TABLE,
+const INFO0: Layout<'static, 49, 14, 33> = Layout {
+    picture: &PICTURE,
+    table: &TABLE,
 };
 
 // What an end says of itself. 1 is yes, unless the line says otherwise. Flags and clock stay numbers: C hands numbers over, and one out of

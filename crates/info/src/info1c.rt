@@ -40,9 +40,9 @@ const TABLE: [Field; 22] = [
     field!(79, 10, 0..=1023), // frequency offset, the count's ten bits
 ];
 
-const INFO1C: Layout<109, 22, 93> = Layout {
-    picture: PICTURE,
-    table: TABLE,
+const INFO1C: Layout<'static, 109, 22, 93> = Layout {
+    picture: &PICTURE,
+    table: &TABLE,
 };
 
 // The weight of the highest of the count's ten bits. It counts negative.

@@ -26,9 +26,9 @@ const TABLE: [Field; 6] = [
     field!(50, 1, 0..=1), // reserved
 ];
 
-const JP: Layout<72, 6, CARRIED> = Layout {
-    picture: PICTURE,
-    table: TABLE,
+const JP: Layout<'static, 72, 6, CARRIED> = Layout {
+    picture: &PICTURE,
+    table: &TABLE,
 };
 
 // What the digital modem asks for. A size is that of the constellation of CPu, E2u, SUVu and TRN2u: 0 four points, 1 eight. Both sizes stay

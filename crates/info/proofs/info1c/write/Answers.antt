@@ -14,7 +14,7 @@ use Rattle.info.proofs.info1c.write.Goals as goal
 
 pub invariant_of-write_sequence : goal.invariant_of-write_sequence
 unfolding is_whole is_narrow is_laid free bit_count
-invariant_of-write_sequence c = record { whole = refl; narrow = refl; room = refl }
+invariant_of-write_sequence c = record { places = refl; fields = refl; whole = refl; narrow = refl; room = refl }
 
 pub returns : goal.returns
 unfolding info1c block framed fixed places fill sync

@@ -11,7 +11,7 @@ use Rattle.jp.proofs.sequence.read.Goals as goal
 
 pub invariant_of-read_sequence : goal.invariant_of-read_sequence
 unfolding is_whole is_narrow is_laid free bit_count
-invariant_of-read_sequence c = record { whole = refl; narrow = refl; room = refl }
+invariant_of-read_sequence c = record { places = refl; fields = refl; whole = refl; narrow = refl; room = refl }
 
 pub returns-in_err-numbers : goal.returns-in_err-numbers
 unfolding jp start_and_sixteen fixed places
