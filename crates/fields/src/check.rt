@@ -22,7 +22,7 @@ fn stepped(register: u64, bit: u8) -> u64
     (register % 32768 * 2) ^ ((register / 32768 + u64::from(bit)) % 2 * 4129)
 }
 
-// The check of whatever bits come: the one loop of both functions below.
+// The check of whatever bits come.
 fn check_over<I: Iterator<Item = u8> + Drop>(bits: I) -> u64
     requires can { I.can_next bits }
     requires ends { IsFinite (I.remaining bits) }
@@ -43,18 +43,19 @@ pub fn crc_of(bits: &[u8]) -> u64
     check_over(bits.iter().copied())
 }
 
-// The check of what stands in the free places of a sequence.
+// The check of what stands in the free places of a sequence, by a loop of its own: a chain of `zip`, `filter` and `map` starts anew at each
+// free place, and with it a reader of a layout takes two fifths more instructions.
 pub(crate) fn crc_inside(picture: &[u8], bits: &[u8]) -> u64
     requires { (length bits.now ≡ length picture.now) × Bits bits.now }
     ensures { result ≡ high_value (crc (inside picture.now bits.now)) }
 {
-    check_over(
-        picture
-            .iter()
-            .zip(bits)
-            .filter(|(place, _)| **place == FREE)
-            .map(|(_, bit)| *bit),
-    )
+    let mut register = PRESET;
+    for (place, bit) in picture.iter().zip(bits) {
+        if *place == FREE {
+            register = stepped(register, *bit);
+        }
+    }
+    register
 }
 
 // The sixteen bits of a check, highest power first, from the front on. Where there is room for these alone, they are the whole.

@@ -1,21 +1,29 @@
 -- `fields::check::crc_inside` meets its contract.
-use Rattle.std.proofs.Common.{sym, ap, ◌∙◌, eqb, rules, tests}
-use Rattle.std.proofs.lemmas.Iterator.{YieldsList-from_slice, YieldsList-from_zip, YieldsList-from_map, items_from_drains}
-use Rattle.std.proofs.lemmas.Iterator.Consumers.{YieldsList-from_filter, YieldsList-at}
-use Rattle.std.proofs.lemmas.List.{map-id}
-use Rattle.fields.specs.Weights.{high_value}
-use Rattle.sequences.specs.Register.{crc}
-use Rattle.fields.proofs.Checks.{inside-chosen}
+use Rattle.std.proofs.Common.{◌≡◌, sym, rules, tests}
+use Rattle.std.proofs.lemmas.Iterator.{empty_from_Zip}
+use Rattle.fields.proofs.Checks.{inward_none, inward_fixed, inward-free, inward_all}
 use Rattle.fields.proofs.check.crc_inside.Goals as goal
+
+pub loop-place-init : goal.loop-place-init
+loop-place-init c =
+    let picture : c.into_iter-place-iterator.result.a.rest.now ≡ c.args.picture.now = cc in
+    let bits : c.into_iter-place-iterator.result.b.rest.now ≡ c.args.bits.now = cc in
+    rw (picture, bits) (inward_none c.args.picture.now c.args.bits.now (sym c.requires.0))
+
+pub stepped-register-requires : goal.stepped-register-requires
+stepped-register-requires c = c.loop-place.invariant.small
+
+pub loop-place-preserved-then-place-eq-FREE : goal.loop-place-preserved-then-place-eq-FREE
+loop-place-preserved-then-place-eq-FREE c =
+    let next = c.in-Some.ensures.steps in
+    inward-free _ _ _ _ _ _ _ (rw (next.0, next.1) at c.loop-place.invariant) _ (search (rules, tests)) c.stepped-register.ensures
+
+pub loop-place-preserved : goal.loop-place-preserved
+loop-place-preserved c =
+    let next = c.in-Some.ensures.steps in
+    inward_fixed _ _ _ _ _ _ _ (rw (next.0, next.1) at c.loop-place.invariant) (search (rules, tests))
 
 pub returns : goal.returns
 returns c =
-    let e = c.check_over.ensures in
-    let pairs = YieldsList-from_zip (YieldsList-from_slice c.args.picture.now cc) (YieldsList-from_slice c.args.bits.now cc) in
-    let items =
-    items_from_drains e.0 (e.1.1.0, e.1.1.1, λ _. (e.1.0, e.1.1.2))
-    (YieldsList-from_map _ (λ p. p.1)
-    (YieldsList-at c.map.ensures.source
-    (YieldsList-from_filter _ (λ p. eqb p.0 46) pairs c.filter.ensures.closure (λ x b q k. search (rules, tests))))
-    c.map.ensures.closure (λ x r q k. search (rules, tests))) in
-    e.2 ∙ ap (λ l. high_value (crc l)) (sym (map-id e.0) ∙ items ∙ inside-chosen c.args.picture.now c.args.bits.now)
+    let none = empty_from_Zip c.loop-place.place-iterator c.next.new.self _ c.in-None.is c.next.ensures.steps c.loop-place.invariant.count in
+    inward_all _ _ _ (rw (none.0, none.1) at c.loop-place.invariant)
