@@ -1,12 +1,13 @@
 -- The check of a list of bits as the loop of the code works it out: bit by bit, from the register of ones on. Assumes nothing.
 use mathlib.Core.Bool.{Bool, true, false, cond}
-use mathlib.Core.List.{List, [], ◌∷◌, ◌++◌, append-nil}
+use mathlib.Core.List.{List, [], ◌∷◌, ◌++◌, map, append-nil}
 use mathlib.Core.Path.{◌≡◌, refl, sym, subst, ap, ap₂, ◌∙◌}
 use Prim.Native.Nat.{ℕ, ◌+◌, ◌^◌, ◌≤◌, ◌<◌}
 use native.Mathlib.Nat.{mod-eq_of_lt}
 use native.Mathlib.Omega.{arith}
 use lib.Dec.{eqb}
 use lib.ListN.{length, take, drop_of_length-le}
+use Rattle.std.specs.List.{filter, zip}
 use Rattle.laws.specs.Put.{put}
 use Rattle.bits.specs.Digits.{Bits}
 use Rattle.sequences.specs.Picture.{inside}
@@ -60,6 +61,22 @@ sealed_by_put body at check room binary e =
     let own : high_digits 16 check ≡ crc bits = ap (high_digits 16) e ∙ high_digits-high_value 16 (crc bits) (length-crc bits) (bits-crc bits) in
     let end : length body ≤ at + length (high_digits 16 check) = omega (arith, length-high_digits 16 check) in
     ap (λ (l : List ℕ). bits ++ l) (ap₂ ◌++◌ own (drop_of_length-le body end) ∙ append-nil (crc bits))
+
+-- what stands in the free places, out of the pairs of a place and its bit
+pub inside-chosen : (picture bits : List ℕ) → map (λ p. p.1) (filter (λ p. eqb p.0 46) (zip picture bits)) ≡ inside picture bits
+unfolding inside
+inside-chosen [] bits = refl
+inside-chosen (place ∷ picture) [] = refl
+inside-chosen (place ∷ picture) (bit ∷ bits) = by (eqb place 46) (inside-chosen picture bits)
+  where
+    free : List (ℕ × ℕ)
+    free = filter (λ p. eqb p.0 46) (zip picture bits)
+
+    by :
+        (v : Bool) → map (λ p. p.1) free ≡ inside picture bits
+        → map (λ p. p.1) (cond v ((place, bit) ∷ free) free) ≡ cond v (bit ∷ inside picture bits) (inside picture bits)
+    by true rest = ap (λ (l : List ℕ). bit ∷ l) rest
+    by false rest = rest
 
 -- The loop over picture and sequence: once what is left of both is fed, so is what stands in the free places of the whole.
 pub record Inward (picture bits : List ℕ) (register : ℕ) (places rest : List ℕ) : Type 0 where

@@ -24,7 +24,8 @@ pub fn all_hold(picture: &[u8], bits: &[u8]) -> bool
         .all(|(place, bit)| holds(*place, *bit))
 }
 
-// What stands in the free places, into a body that has just room for it. The body is filled by a count of the free places so far, as below.
+// What stands in the free places, into a body that has just room for it. It goes by place on both sides, as `put_around`, which is its way back:
+// the body is filled by a count of the free places so far.
 pub fn take_inside(picture: &[u8], bits: &[u8], body: &mut [u8])
     requires { (length bits.now ≡ length picture.now) × (length body.old ≡ free picture.now) }
     ensures { body.new ≡ inside picture.now bits.now }
