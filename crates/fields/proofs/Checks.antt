@@ -62,7 +62,7 @@ sealed_by_put body at check room binary e =
     let end : length body ≤ at + length (high_digits 16 check) = omega (arith, length-high_digits 16 check) in
     ap (λ (l : List ℕ). bits ++ l) (ap₂ ◌++◌ own (drop_of_length-le body end) ∙ append-nil (crc bits))
 
--- what stands in the free places, out of the pairs of a place and its bit
+-- what stands in the free places, out of the pairs of a place and its bit; nothing cites it: it is for a chain over these pairs
 pub inside-chosen : (picture bits : List ℕ) → map (λ p. p.1) (filter (λ p. eqb p.0 46) (zip picture bits)) ≡ inside picture bits
 unfolding inside
 inside-chosen [] bits = refl

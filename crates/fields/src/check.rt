@@ -22,7 +22,7 @@ fn stepped(register: u64, bit: u8) -> u64
     (register % 32768 * 2) ^ ((register / 32768 + u64::from(bit)) % 2 * 4129)
 }
 
-// The check of whatever bits come.
+// The check of whatever bits come, over an iterator, so that it is said of the bits and not of where they stand.
 fn check_over<I: Iterator<Item = u8> + Drop>(bits: I) -> u64
     requires can { I.can_next bits }
     requires ends { IsFinite (I.remaining bits) }
@@ -44,7 +44,7 @@ pub fn crc_of(bits: &[u8]) -> u64
 }
 
 // The check of what stands in the free places of a sequence, by a loop of its own: a chain of `zip`, `filter` and `map` starts anew at each
-// free place, and with it a reader of a layout takes two fifths more instructions.
+// free place, and with it a reader of a layout takes a third to four fifths more instructions.
 pub(crate) fn crc_inside(picture: &[u8], bits: &[u8]) -> u64
     requires { (length bits.now ≡ length picture.now) × Bits bits.now }
     ensures { result ≡ high_value (crc (inside picture.now bits.now)) }
